@@ -1,0 +1,13 @@
+//! A C program as a tree: its types, its gaps, and the choices of `free` statements that fill them.
+#![tactic(auto)]
+
+mod choice;
+mod expr;
+mod program;
+
+pub use choice::{Choice, Put};
+pub use expr::{Expr, Op, Oper, Sign};
+pub use program::{
+    Arm, Block, Call, Declr, FieldDef, ForHead, Free, FunDef, Gap, Home, Item, Piece, Program,
+    Right, Simple, Size, Start, StructDef, Ty, VarDef,
+};
