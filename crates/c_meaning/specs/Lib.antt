@@ -1,0 +1,5 @@
+pub mod Machine
+pub mod Eval
+pub mod Place
+pub mod Step
+pub mod Safe
