@@ -1,0 +1,4 @@
+//! The repair of a C text, from bytes to bytes.
+#![tactic(auto)]
+
+mod scan;
