@@ -1,4 +1,5 @@
 //! The repair of a C text, from bytes to bytes.
 #![tactic(auto)]
 
+mod kinds;
 mod scan;
