@@ -2,4 +2,6 @@
 #![tactic(auto)]
 
 mod kinds;
+mod draft;
+mod form;
 mod scan;

@@ -1,0 +1,147 @@
+-- The first form: which token lists it has, and the draft that is read off each.
+use Rattle.std.specs.Prelude.{◌≡◌, ℕ, ◌+◌, length, take, if◌then◌else◌, option_and_then, Bool, true, false, ◌==◌, ◌&&◌, nat_eq, nat_le, ℤ, pos, List, [], ◌∷◌, ◌++◌, slice_get, unwrap_or, option_map, codes, Option, Some, None, IsTrue}
+use Rattle.std.specs.Cmp.Lexicographic.{pointwise}
+use Rattle.c_lexer.specs.declared.token.Token.{Token}
+use Rattle.c_lexer.specs.declared.token.Kind.{Kind}
+use Rattle.c_lexer.specs.declared.token.Kind.TheVariants as kind
+use Rattle.memfix_engine.specs.declared.kinds.TheConstants.{KEY_FREE, KEY_INT, KEY_MALLOC, KEY_PRINTF, KEY_RETURN, KEY_SIZEOF, KEY_VOID, PUNCT_OPEN, PUNCT_CLOSE, PUNCT_STAR, PUNCT_COMMA, PUNCT_SEMICOLON, PUNCT_ASSIGN, PUNCT_OPEN_BRACE, PUNCT_CLOSE_BRACE}
+use Rattle.memfix_engine.specs.declared.draft.Want.{Want}
+use Rattle.memfix_engine.specs.declared.draft.Want.TheVariants.{Key, Punct, Name, Main, Number, Format}
+use Rattle.memfix_engine.specs.declared.draft.Pattern.{Pattern}
+use Rattle.memfix_engine.specs.declared.draft.Pattern.TheVariants as pattern
+use Rattle.memfix_engine.specs.declared.draft.Deed.{Deed}
+use Rattle.memfix_engine.specs.declared.draft.Deed.TheVariants as deed
+use Rattle.memfix_engine.specs.declared.draft.Step.{Step}
+use Rattle.memfix_engine.specs.declared.draft.Draft.{Draft}
+
+-- one lower-case letter
+abbrev pub is_letter_name : List ℕ → Bool
+is_letter_name [] = false
+is_letter_name (c ∷ []) = nat_le 97 c && nat_le c 122
+is_letter_name (c ∷ d ∷ more) = false
+
+abbrev pub fits : Want → Kind → Bool
+fits (Key k) (kind.Key n) = k == n
+fits (Punct k) (kind.Punct n) = k == n
+fits Name (kind.Name word) = is_letter_name word
+fits Main (kind.Name word) = pointwise nat_eq word (codes "main")
+fits Number (kind.Number n) = true
+fits Format (kind.Text text) = pointwise nat_eq text (37 ∷ 100 ∷ 10 ∷ [])
+fits _ _ = false
+
+-- the tokens are those of the pattern, one by one
+abbrev pub matches : List Want → List Token → Bool
+matches [] [] = true
+matches [] (t ∷ ts) = false
+matches (w ∷ ws) [] = false
+matches (w ∷ ws) (t ∷ ts) = fits w t.kind && matches ws ts
+
+-- int main ( void ) {
+abbrev pub head_pattern : List Want
+head_pattern = Key KEY_INT ∷ Main ∷ Punct PUNCT_OPEN ∷ Key KEY_VOID ∷ Punct PUNCT_CLOSE ∷ Punct PUNCT_OPEN_BRACE ∷ []
+
+-- return K ; }
+abbrev pub tail_pattern : List Want
+tail_pattern = Key KEY_RETURN ∷ Number ∷ Punct PUNCT_SEMICOLON ∷ Punct PUNCT_CLOSE_BRACE ∷ []
+
+abbrev pub wants : Pattern → List Want
+-- int * N = malloc ( sizeof ( int ) ) ;
+wants pattern.Make = Key KEY_INT ∷ Punct PUNCT_STAR ∷ Name ∷ Punct PUNCT_ASSIGN ∷ Key KEY_MALLOC ∷ Punct PUNCT_OPEN ∷ Key KEY_SIZEOF
+    ∷ Punct PUNCT_OPEN ∷ Key KEY_INT ∷ Punct PUNCT_CLOSE ∷ Punct PUNCT_CLOSE ∷ Punct PUNCT_SEMICOLON ∷ []
+-- * N = K ;
+wants pattern.Store = Punct PUNCT_STAR ∷ Name ∷ Punct PUNCT_ASSIGN ∷ Number ∷ Punct PUNCT_SEMICOLON ∷ []
+-- printf ( "%d\n" , * N ) ;
+wants pattern.Show = Key KEY_PRINTF ∷ Punct PUNCT_OPEN ∷ Format ∷ Punct PUNCT_COMMA ∷ Punct PUNCT_STAR ∷ Name ∷ Punct PUNCT_CLOSE ∷ Punct PUNCT_SEMICOLON ∷ []
+-- free ( N ) ;
+wants pattern.Free = Key KEY_FREE ∷ Punct PUNCT_OPEN ∷ Name ∷ Punct PUNCT_CLOSE ∷ Punct PUNCT_SEMICOLON ∷ []
+wants pattern.Empty = Punct PUNCT_SEMICOLON ∷ []
+
+-- what the tokens of a match carry, by their places in it
+
+abbrev pub start_at : List Token → ℕ → ℕ
+start_at ts i = unwrap_or (option_map (λ t. t.start) (slice_get ts i)) 0
+
+abbrev pub end_at : List Token → ℕ → ℕ
+end_at ts i = unwrap_or (option_map (λ t. t.end) (slice_get ts i)) 0
+
+abbrev pub word_of : Kind → List ℕ
+word_of (kind.Name word) = word
+word_of _ = []
+
+abbrev pub number_of : Kind → ℤ
+number_of (kind.Number n) = n
+number_of _ = pos 0
+
+abbrev pub word_at : List Token → ℕ → List ℕ
+word_at ts i = unwrap_or (option_map (λ t. word_of t.kind) (slice_get ts i)) []
+
+abbrev pub number_at : List Token → ℕ → ℤ
+number_at ts i = unwrap_or (option_map (λ t. number_of t.kind) (slice_get ts i)) (pos 0)
+
+abbrev pub deed_of : Pattern → List Token → Deed
+deed_of pattern.Make ts = deed.Make (word_at ts 2) (start_at ts 2) (start_at ts 3) (start_at ts 4)
+deed_of pattern.Store ts = deed.Store (word_at ts 1) (start_at ts 1) (start_at ts 2) (number_at ts 3) (start_at ts 3)
+deed_of pattern.Show ts = deed.Show (word_at ts 5) (start_at ts 5) (start_at ts 4)
+deed_of pattern.Free ts = deed.Free (word_at ts 2) (start_at ts 2)
+deed_of pattern.Empty ts = deed.Empty
+
+abbrev pub last_of : Pattern → ℕ
+last_of pattern.Make = 11
+last_of pattern.Store = 4
+last_of pattern.Show = 7
+last_of pattern.Free = 4
+last_of pattern.Empty = 0
+
+abbrev pub step_of : Pattern → List Token → Step
+step_of p ts = record { deed = deed_of p ts; start = start_at ts 0; end = end_at ts (last_of p) }
+
+-- the step is read off tokens that match a pattern
+pub record Spells (s : Step) (ts : List Token) : Type 0 where
+  pub pattern : Pattern
+  pub matched : matches (wants pattern) ts ≡ true
+  pub read : s ≡ step_of pattern ts
+
+-- the tokens are those of the steps, one step after another
+pub data Steps : List Step → List Token → Type 0 where
+  none : Steps [] []
+  more : (s : Step) (ss : List Step) (front rest : List Token) → Spells s front → Steps ss rest → Steps (s ∷ ss) (front ++ rest)
+
+abbrev pub draft_of : List Step → List Token → List Token → Draft
+draft_of ss head tail = record {
+  steps = ss;
+  number = number_at tail 1;
+  main_at = start_at head 1;
+  brace_at = start_at head 5;
+  return_at = start_at tail 0;
+  number_at = start_at tail 1;
+  return_end = end_at tail 2;
+  close_at = start_at tail 3
+}
+
+-- the tokens are of the first form, and the draft is read off them
+pub record IsForm (ts : List Token) (d : Draft) : Type 0 where
+  pub head : List Token
+  pub body : List Token
+  pub tail : List Token
+  pub whole : ts ≡ head ++ (body ++ tail)
+  pub begins : matches head_pattern head ≡ true
+  pub steps : Steps d.steps body
+  pub ends : matches tail_pattern tail ≡ true
+  pub read : d ≡ draft_of d.steps head tail
+
+-- the pattern that the first token calls for
+abbrev pub candidate : Kind → Option Pattern
+candidate (kind.Key n) = if n == KEY_INT then Some pattern.Make else (if n == KEY_PRINTF then Some pattern.Show else (if n == KEY_FREE then Some pattern.Free else None))
+candidate (kind.Punct n) = if n == PUNCT_STAR then Some pattern.Store else (if n == PUNCT_SEMICOLON then Some pattern.Empty else None)
+candidate _ = None
+
+abbrev pub candidate_at : List Token → Option Pattern
+candidate_at [] = None
+candidate_at (t ∷ ts) = candidate t.kind
+
+abbrev pub begins : List Token → Pattern → Bool
+begins ts p = matches (wants p) (take (length (wants p)) ts)
+
+-- the pattern of the step that the tokens begin with
+abbrev pub pattern_at : List Token → Option Pattern
+pattern_at ts = option_and_then (λ p. if begins ts p then Some p else None) (candidate_at ts)

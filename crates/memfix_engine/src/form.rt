@@ -1,0 +1,193 @@
+//! Tokens of the first form, read as a draft.
+ghost use Rattle.std.specs.Prelude.{◌≡◌, ◌≤◌, length, take, drop, true, None, Some, IfOk, IfSome, IfNone};
+ghost use Rattle.std.specs.List.{list_all, zip};
+ghost use Rattle.c_lexer.specs.declared.token.Token.{Token};
+ghost use Rattle.memfix_engine.specs.declared.draft.Draft.{Draft};
+ghost use Rattle.memfix_engine.specs.Form.{fits, matches, head_pattern, tail_pattern, wants, start_at, end_at, word_at, word_of, number_of, is_letter_name, number_at, deed_of, last_of, step_of, candidate, pattern_at, Steps, IsForm};
+
+use std::alloc::{AllocError, Global};
+
+use c_lexer::{Kind, Token};
+use mf_list::Seq;
+
+use crate::draft::{Deed, Draft, Pattern, Step, Want};
+use crate::kinds::{
+    KEY_FREE, KEY_INT, KEY_MALLOC, KEY_PRINTF, KEY_RETURN, KEY_SIZEOF, KEY_VOID, PUNCT_ASSIGN,
+    PUNCT_CLOSE, PUNCT_CLOSE_BRACE, PUNCT_COMMA, PUNCT_OPEN, PUNCT_OPEN_BRACE, PUNCT_SEMICOLON,
+    PUNCT_STAR,
+};
+
+const HEAD: [Want; 6] = [
+    Want::Key(KEY_INT),
+    Want::Main,
+    Want::Punct(PUNCT_OPEN),
+    Want::Key(KEY_VOID),
+    Want::Punct(PUNCT_CLOSE),
+    Want::Punct(PUNCT_OPEN_BRACE),
+];
+
+const TAIL: [Want; 4] = [
+    Want::Key(KEY_RETURN),
+    Want::Number,
+    Want::Punct(PUNCT_SEMICOLON),
+    Want::Punct(PUNCT_CLOSE_BRACE),
+];
+
+const MAKE: [Want; 12] = [
+    Want::Key(KEY_INT),
+    Want::Punct(PUNCT_STAR),
+    Want::Name,
+    Want::Punct(PUNCT_ASSIGN),
+    Want::Key(KEY_MALLOC),
+    Want::Punct(PUNCT_OPEN),
+    Want::Key(KEY_SIZEOF),
+    Want::Punct(PUNCT_OPEN),
+    Want::Key(KEY_INT),
+    Want::Punct(PUNCT_CLOSE),
+    Want::Punct(PUNCT_CLOSE),
+    Want::Punct(PUNCT_SEMICOLON),
+];
+
+const STORE: [Want; 5] = [
+    Want::Punct(PUNCT_STAR),
+    Want::Name,
+    Want::Punct(PUNCT_ASSIGN),
+    Want::Number,
+    Want::Punct(PUNCT_SEMICOLON),
+];
+
+const SHOW: [Want; 8] = [
+    Want::Key(KEY_PRINTF),
+    Want::Punct(PUNCT_OPEN),
+    Want::Format,
+    Want::Punct(PUNCT_COMMA),
+    Want::Punct(PUNCT_STAR),
+    Want::Name,
+    Want::Punct(PUNCT_CLOSE),
+    Want::Punct(PUNCT_SEMICOLON),
+];
+
+const FREE: [Want; 5] = [
+    Want::Key(KEY_FREE),
+    Want::Punct(PUNCT_OPEN),
+    Want::Name,
+    Want::Punct(PUNCT_CLOSE),
+    Want::Punct(PUNCT_SEMICOLON),
+];
+
+const EMPTY: [Want; 1] = [Want::Punct(PUNCT_SEMICOLON)];
+
+fn wants(pattern: Pattern) -> &'static [Want]
+    ensures { result.now ≡ wants pattern }
+{
+    match pattern {
+        Pattern::Make => &MAKE,
+        Pattern::Store => &STORE,
+        Pattern::Show => &SHOW,
+        Pattern::Free => &FREE,
+        Pattern::Empty => &EMPTY,
+    }
+}
+
+fn is_letter_name(word: &[u8]) -> bool
+    ensures { result ≡ is_letter_name word.now }
+{
+    matches!(word, [b'a'..=b'z'])
+}
+
+fn fits(want: Want, kind: &Kind) -> bool
+    ensures { result ≡ fits want kind.now }
+{
+    match (want, kind) {
+        (Want::Key(k), Kind::Key(n)) => k == *n,
+        (Want::Punct(k), Kind::Punct(n)) => k == *n,
+        (Want::Name, Kind::Name(word)) => is_letter_name(word.as_slice()),
+        (Want::Main, Kind::Name(word)) => word.as_slice() == b"main".as_slice(),
+        (Want::Number, Kind::Number(_)) => true,
+        (Want::Format, Kind::Text(text)) => text.as_slice() == b"%d\n".as_slice(),
+        _ => false,
+    }
+}
+
+fn all_fit(wants: &[Want], tokens: &[Token]) -> bool
+    ensures { result ≡ list_all (λ p. fits p.0 p.1.kind) (zip wants.now tokens.now) }
+{
+    wants
+        .iter()
+        .zip(tokens)
+        .all(|(want, token)| fits(*want, &token.kind))
+}
+
+#[tactic(auto, using(crate::proofs::FormLemmas::pairs))]
+fn matches(wants: &[Want], tokens: &[Token]) -> bool
+    ensures { result ≡ matches wants.now tokens.now }
+{
+    wants.len() == tokens.len() && all_fit(wants, tokens)
+}
+
+fn start_at(tokens: &[Token], i: usize) -> usize
+    ensures { result ≡ start_at tokens.now i }
+{
+    match tokens.get(i) {
+        Some(token) => token.start,
+        None => 0,
+    }
+}
+
+fn end_at(tokens: &[Token], i: usize) -> usize
+    ensures { result ≡ end_at tokens.now i }
+{
+    match tokens.get(i) {
+        Some(token) => token.end,
+        None => 0,
+    }
+}
+
+fn word_of(kind: &Kind) -> &[u8]
+    ensures { result.now ≡ word_of kind.now }
+{
+    match kind {
+        Kind::Name(word) => word.as_slice(),
+        _ => &[],
+    }
+}
+
+fn number_of(kind: &Kind) -> i32
+    ensures { result ≡ number_of kind.now }
+{
+    match kind {
+        Kind::Number(n) => *n,
+        _ => 0,
+    }
+}
+
+fn word_at(alloc: Global, tokens: &[Token], i: usize) -> Result<Seq<u8>, AllocError>
+    ensures { IfOk result (λ w. w ≡ word_at tokens.now i) }
+{
+    match tokens.get(i) {
+        Some(token) => Seq::from_slice(alloc, word_of(&token.kind)),
+        None => Ok(Seq::new(alloc)),
+    }
+}
+
+fn number_at(tokens: &[Token], i: usize) -> i32
+    ensures { result ≡ number_at tokens.now i }
+{
+    match tokens.get(i) {
+        Some(token) => number_of(&token.kind),
+        None => 0,
+    }
+}
+
+fn candidate(kind: &Kind) -> Option<Pattern>
+    ensures { result ≡ candidate kind.now }
+{
+    match kind {
+        Kind::Key(n) if *n == KEY_INT => Some(Pattern::Make),
+        Kind::Key(n) if *n == KEY_PRINTF => Some(Pattern::Show),
+        Kind::Key(n) if *n == KEY_FREE => Some(Pattern::Free),
+        Kind::Punct(n) if *n == PUNCT_STAR => Some(Pattern::Store),
+        Kind::Punct(n) if *n == PUNCT_SEMICOLON => Some(Pattern::Empty),
+        _ => None,
+    }
+}
