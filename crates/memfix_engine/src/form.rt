@@ -1,14 +1,9 @@
 //! Tokens of the first form, read as a draft.
-ghost use Rattle.std.specs.Prelude.{◌≡◌, ◌≤◌, length, take, drop, true, None, Some, IfOk, IfSome, IfNone};
+ghost use Rattle.std.specs.Prelude.{◌≡◌, ◌<◌, ◌≤◌, length, take, drop, true, None, Some, IfOk, IfSome, IfNone};
 ghost use Rattle.std.specs.List.{list_all, zip};
 ghost use Rattle.c_lexer.specs.declared.token.Token.{Token};
 ghost use Rattle.memfix_engine.specs.declared.draft.Draft.{Draft};
-ghost use Rattle.memfix_engine.specs.Form.{fits, matches, head_pattern, tail_pattern, wants, start_at, end_at, word_at, word_of, number_of, is_letter_name, number_at, deed_of, last_of, step_of, candidate, pattern_at, Steps, IsForm};
-
-use std::alloc::{AllocError, Global};
-
-use c_lexer::{Kind, Token};
-use mf_list::Seq;
+ghost use Rattle.memfix_engine.specs.Form.{fits, matches, head_pattern, tail_pattern, wants, start_at, end_at, word_at, word_of, number_of, is_letter_name, number_at, deed_of, last_of, step_of, candidate, begins, pattern_at, draft_of, Spells, Steps, IsForm};
 
 use crate::draft::{Deed, Draft, Pattern, Step, Want};
 use crate::kinds::{
@@ -16,6 +11,9 @@ use crate::kinds::{
     PUNCT_CLOSE, PUNCT_CLOSE_BRACE, PUNCT_COMMA, PUNCT_OPEN, PUNCT_OPEN_BRACE, PUNCT_SEMICOLON,
     PUNCT_STAR,
 };
+use c_lexer::{Kind, Token};
+use mf_list::Seq;
+use std::alloc::{AllocError, Global};
 
 const HEAD: [Want; 6] = [
     Want::Key(KEY_INT),
@@ -190,4 +188,138 @@ fn candidate(kind: &Kind) -> Option<Pattern>
         Kind::Punct(n) if *n == PUNCT_SEMICOLON => Some(Pattern::Empty),
         _ => None,
     }
+}
+
+fn begins(tokens: &[Token], pattern: Pattern) -> bool
+    ensures { result ≡ begins tokens.now pattern }
+{
+    let wants = wants(pattern);
+    tokens.len() >= wants.len() && matches(wants, &tokens[..wants.len()])
+}
+
+fn pattern_at(tokens: &[Token]) -> Option<Pattern>
+    ensures value { result ≡ pattern_at tokens.now }
+    ensures within { IfSome result (λ p. length (wants p) ≤ length tokens.now) }
+    ensures some { IfSome result (λ p. 0 < length (wants p)) }
+    ensures begun { IfSome result (λ p. begins tokens.now p ≡ true) }
+{
+    let pattern = candidate(&tokens.first()?.kind)?;
+    if begins(tokens, pattern) {
+        Some(pattern)
+    } else {
+        None
+    }
+}
+
+fn deed_of(alloc: Global, pattern: Pattern, tokens: &[Token]) -> Result<Deed, AllocError>
+    ensures { IfOk result (λ d. d ≡ deed_of pattern tokens.now) }
+{
+    Ok(match pattern {
+        Pattern::Make => Deed::Make {
+            name: word_at(alloc, tokens, 2)?,
+            name_at: start_at(tokens, 2),
+            equals: start_at(tokens, 3),
+            malloc: start_at(tokens, 4),
+        },
+        Pattern::Store => Deed::Store {
+            name: word_at(alloc, tokens, 1)?,
+            name_at: start_at(tokens, 1),
+            equals: start_at(tokens, 2),
+            number: number_at(tokens, 3),
+            number_at: start_at(tokens, 3),
+        },
+        Pattern::Show => Deed::Show {
+            name: word_at(alloc, tokens, 5)?,
+            name_at: start_at(tokens, 5),
+            star: start_at(tokens, 4),
+        },
+        Pattern::Free => Deed::Free {
+            name: word_at(alloc, tokens, 2)?,
+            name_at: start_at(tokens, 2),
+        },
+        Pattern::Empty => Deed::Empty,
+    })
+}
+
+fn step_of(alloc: Global, pattern: Pattern, tokens: &[Token]) -> Result<Step, AllocError>
+    ensures { IfOk result (λ s. s ≡ step_of pattern tokens.now) }
+{
+    let last = match pattern {
+        Pattern::Make => 11,
+        Pattern::Show => 7,
+        Pattern::Store | Pattern::Free => 4,
+        Pattern::Empty => 0,
+    };
+    Ok(Step {
+        deed: deed_of(alloc, pattern, tokens)?,
+        start: start_at(tokens, 0),
+        end: end_at(tokens, last),
+    })
+}
+
+/// The step that the tokens begin with, and how many tokens it takes.
+fn next_step(alloc: Global, tokens: &[Token]) -> Result<Option<(Step, usize)>, AllocError>
+    ensures within { IfOk result (λ o. IfSome o (λ found. found.1 ≤ length tokens.now)) }
+    ensures some { IfOk result (λ o. IfSome o (λ found. 0 < found.1)) }
+    ensures step { IfOk result (λ o. IfSome o (λ found. Spells found.0 (take found.1 tokens.now))) }
+    ensures none { IfOk result (λ o. IfNone o (pattern_at tokens.now ≡ None)) }
+{
+    match pattern_at(tokens) {
+        Some(pattern) => {
+            let width = wants(pattern).len();
+            let step = step_of(alloc, pattern, tokens.split_at(width).0)?;
+            Ok(Some((step, width)))
+        }
+        None => Ok(None),
+    }
+}
+
+/// The steps that the tokens begin with, as many as there are, and how many tokens they take.
+fn steps_of(alloc: Global, tokens: &[Token]) -> Result<(Seq<Step>, usize), AllocError>
+    ensures within { IfOk result (λ found. found.1 ≤ length tokens.now) }
+    ensures steps { IfOk result (λ found. Steps found.0 (take found.1 tokens.now)) }
+    ensures all { IfOk result (λ found. pattern_at (drop found.1 tokens.now) ≡ None) }
+{
+    let mut steps = Seq::new(alloc);
+    let mut at = 0;
+    while let Some((step, width)) = next_step(alloc, tokens.split_at(at).1)? {
+        steps.push(step)?;
+        at += width;
+    }
+    Ok((steps, at))
+}
+
+fn draft_from(steps: Seq<Step>, head: &[Token], tail: &[Token]) -> Draft
+    ensures { result ≡ draft_of steps head.now tail.now }
+{
+    Draft {
+        steps,
+        number: number_at(tail, 1),
+        main_at: start_at(head, 1),
+        brace_at: start_at(head, 5),
+        return_at: start_at(tail, 0),
+        number_at: start_at(tail, 1),
+        return_end: end_at(tail, 2),
+        close_at: start_at(tail, 3),
+    }
+}
+
+/// The draft of tokens of the first form, `None` for all others.
+pub(crate) fn draft_of(alloc: Global, tokens: &[Token]) -> Result<Option<Draft>, AllocError>
+    ensures found { IfOk result (λ o. IfSome o (IsForm tokens.now)) }
+    ensures none { IfOk result (λ o. IfNone o ((d : Draft) → IsForm tokens.now d → ⊥)) }
+{
+    if tokens.len() < HEAD.len() {
+        return Ok(None);
+    }
+    let (head, body) = tokens.split_at(HEAD.len());
+    if !matches(&HEAD, head) {
+        return Ok(None);
+    }
+    let (steps, at) = steps_of(alloc, body)?;
+    let tail = body.split_at(at).1;
+    if !matches(&TAIL, tail) {
+        return Ok(None);
+    }
+    Ok(Some(draft_from(steps, head, tail)))
 }
