@@ -14,3 +14,6 @@ pub use standard::{StdSink, StdSource};
 pub use steady::{SteadySink, SteadySource};
 pub use unread::Unread;
 pub use whole::{Memory, ReadRefusal, WriteRefusal, read_all, write_all};
+
+#[cfg(test)]
+mod tests;

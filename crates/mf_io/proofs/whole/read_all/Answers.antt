@@ -8,7 +8,7 @@ pub returns-then-count-limit-clause-refused : goal.returns-then-count-limit-clau
 returns-then-count-limit-clause-refused g c = record {
   piece = c.loop-bytes.bytes.items ++ take c.in_ok-count.count c.read.new.room;
   gives = Gives-then _ _ _ _ _ c.loop-bytes.invariant.gives c.in_ok-count.ensures.gives;
-  came = simp (length-append, length-take) (omega (arith, c.in_ok-count.ensures.within), omega (arith, c.in_ok-count.ensures.within))
+  came = simp (length-append, length-take) (omega (arith, c.in_ok-count.ensures.within), omega (arith, c.in_ok-count.ensures.within));
 }
 
 pub returns-in_err-extend_from_slice-clause-refused :
@@ -18,5 +18,5 @@ returns-in_err-extend_from_slice-clause-refused g c =
     rw (p.1, p.2) record {
       piece = c.loop-bytes.bytes.items ++ take c.in_ok-count.count c.read.new.room;
       gives = Gives-then _ _ _ _ _ c.loop-bytes.invariant.gives c.in_ok-count.ensures.gives;
-      came = simp (length-append, length-take) (omega (arith, c.in_ok-count.ensures.within))
+      came = simp (length-append, length-take) (omega (arith, c.in_ok-count.ensures.within));
     }

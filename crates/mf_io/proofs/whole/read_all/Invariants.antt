@@ -6,7 +6,7 @@ abbrev pub invariant-loop-bytes : goal.invariant-loop-bytes
 invariant-loop-bytes g l = record {
   fits : vec_len l.bytes ≤ l.limit;
   gives : Gives (g.S.Source.left l.initial.source) (g.S.Source.left l.source) l.bytes.items;
-  never_falls : g.S.Source.faults l.initial.source ≤ g.S.Source.faults l.source
+  never_falls : g.S.Source.faults l.initial.source ≤ g.S.Source.faults l.source;
 }
 
 abbrev pub decreases-loop-bytes : goal.decreases-loop-bytes
