@@ -1,14 +1,16 @@
 //! Bytes from outside and to outside: sources, sinks, and their whole reads and writes.
 #![tactic(auto)]
 
-mod memory;
+mod mem_sink;
+mod mem_source;
 mod outside;
 mod standard;
 mod steady;
 mod unread;
 mod whole;
 
-pub use memory::{MemSink, MemSource};
+pub use mem_sink::MemSink;
+pub use mem_source::MemSource;
 pub use outside::{Failed, Sink, Source};
 pub use standard::{StdSink, StdSource};
 pub use steady::{SteadySink, SteadySource};

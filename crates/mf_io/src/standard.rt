@@ -1,5 +1,6 @@
 // Sources and sinks over std's readers and writers. They tell nothing of the bytes.
-ghost use Rattle.std.specs.Prelude.{◌≡◌, ◌<◌, ◌≤◌, length, None, IfOk, OnOk, OnErr};
+ghost use Rattle.std.specs.Prelude.{◌≡◌, ◌<◌, ◌≤◌, length, take, None, IfOk, OnOk, OnErr};
+ghost use Rattle.std.specs.Io.KnownBytes.{Appends, ReadConsumes};
 ghost use Rattle.mf_io.specs.Faults.{counted};
 
 use crate::{Failed, Sink, Source};
@@ -9,14 +10,15 @@ use std::io::{Read, Write};
 /// A reader as a source. Each error of the reader is a fault.
 #[derive(Drop)]
 pub struct StdSource<R> {
-    reader: R,
+    pub reader: R,
     pub faults: u64,
     ghost faults_fit: { faults ≤ 18446744073709551615 },
 }
 
 impl<R: Read> StdSource<R> {
     pub fn new(reader: R) -> StdSource<R>
-        ensures { result.faults ≡ 0 }
+        ensures reader { result.reader ≡ reader }
+        ensures faults { result.faults ≡ 0 }
     {
         StdSource { reader, faults: 0 }
     }
@@ -31,6 +33,10 @@ impl<R: Read> Source for StdSource<R> {
 
     fn read(&mut self, room: &mut [u8]) -> Result<usize, Failed>
         ensures within { IfOk result (λ count. count ≤ length room.new) }
+
+        // What the reader tells of its bytes.
+        ensures reads { ReadConsumes (R.remaining self.old.reader) (R.remaining self.new.reader) result room.new }
+
         ensures no_fault { OnOk result (self.new.faults ≡ self.old.faults) }
         ensures fault { OnErr result (self.new.faults ≡ counted self.old.faults) }
     {
@@ -48,14 +54,15 @@ impl<R: Read> Source for StdSource<R> {
 /// a piece that isn't empty and of which nothing is taken.
 #[derive(Drop)]
 pub struct StdSink<W> {
-    writer: W,
+    pub writer: W,
     pub faults: u64,
     ghost faults_fit: { faults ≤ 18446744073709551615 },
 }
 
 impl<W: Write> StdSink<W> {
     pub fn new(writer: W) -> StdSink<W>
-        ensures { result.faults ≡ 0 }
+        ensures writer { result.writer ≡ writer }
+        ensures faults { result.faults ≡ 0 }
     {
         StdSink { writer, faults: 0 }
     }
@@ -71,6 +78,11 @@ impl<W: Write> Sink for StdSink<W> {
     fn write(&mut self, piece: &[u8]) -> Result<usize, Failed>
         ensures within { IfOk result (λ count. count ≤ length piece.now) }
         ensures some { IfOk result (λ count. 0 < length piece.now → 0 < count) }
+
+        // What the writer tells of its bytes.
+        ensures writes { IfOk result (λ count.
+            Appends (W.contents self.old.writer) (W.contents self.new.writer) (take count piece.now)) }
+
         ensures no_fault { OnOk result (self.new.faults ≡ self.old.faults) }
         ensures fault { OnErr result (self.new.faults ≡ counted self.old.faults) }
     {
@@ -85,7 +97,8 @@ impl<W: Write> Sink for StdSink<W> {
 }
 
 fn write_through<W: Write>(writer: &mut W, piece: &[u8]) -> io::Result<usize>
-    ensures { IfOk result (λ count. count ≤ length piece.now) }
+    ensures within { IfOk result (λ count. count ≤ length piece.now) }
+    ensures writes { IfOk result (λ count. Appends (W.contents writer.old) (W.contents writer.new) (take count piece.now)) }
 {
     let count = writer.write(piece)?;
     writer.flush()?;
