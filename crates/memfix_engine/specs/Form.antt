@@ -79,10 +79,10 @@ abbrev pub number_at : List Token → ℕ → ℤ
 number_at ts i = unwrap_or (option_map (λ t. number_of t.kind) (slice_get ts i)) (pos 0)
 
 abbrev pub deed_of : Pattern → List Token → Deed
-deed_of pattern.Make ts = deed.Make (word_at ts 2) (start_at ts 2) (start_at ts 3) (start_at ts 4)
-deed_of pattern.Store ts = deed.Store (word_at ts 1) (start_at ts 1) (start_at ts 2) (number_at ts 3) (start_at ts 3)
-deed_of pattern.Show ts = deed.Show (word_at ts 5) (start_at ts 5) (start_at ts 4)
-deed_of pattern.Free ts = deed.Free (word_at ts 2) (start_at ts 2)
+deed_of pattern.Make ts = deed.Make (record { name = word_at ts 2; name_at = start_at ts 2; equals = start_at ts 3; malloc = start_at ts 4 })
+deed_of pattern.Store ts = deed.Store (record { name = word_at ts 1; name_at = start_at ts 1; equals = start_at ts 2; number = number_at ts 3; number_at = start_at ts 3 })
+deed_of pattern.Show ts = deed.Show (record { name = word_at ts 5; name_at = start_at ts 5; star = start_at ts 4 })
+deed_of pattern.Free ts = deed.Release (record { name = word_at ts 2; name_at = start_at ts 2 })
 deed_of pattern.Empty ts = deed.Empty
 
 abbrev pub last_of : Pattern → ℕ

@@ -37,36 +37,52 @@ pub(crate) struct Step {
     pub(crate) end: usize,
 }
 
-/// What a step does, with its name and the offsets that a program keeps.
+/// What a step does, with what a program keeps of its tokens.
 #[derive(Debug, Drop)]
 pub(crate) enum Deed {
-    Make {
-        name: Seq<u8>,
-        name_at: usize,
-        equals: usize,
-        malloc: usize,
-    },
-    Store {
-        name: Seq<u8>,
-        name_at: usize,
-        equals: usize,
-        number: i32,
-        number_at: usize,
-    },
-    Show {
-        name: Seq<u8>,
-        name_at: usize,
-        star: usize,
-    },
-    Free {
-        name: Seq<u8>,
-        name_at: usize,
-    },
+    Make(Make),
+    Store(Store),
+    Show(Show),
+    Release(Release),
     Empty,
 }
 
+/// `int *N = malloc(sizeof(int));`: the name, and the offsets of the name, of `=` and of `malloc`.
+#[derive(Debug, Drop)]
+pub(crate) struct Make {
+    pub(crate) name: Seq<u8>,
+    pub(crate) name_at: usize,
+    pub(crate) equals: usize,
+    pub(crate) malloc: usize,
+}
+
+/// `*N = K;`: the name and the number, and the offsets of the name, of `=` and of the number.
+#[derive(Debug, Drop)]
+pub(crate) struct Store {
+    pub(crate) name: Seq<u8>,
+    pub(crate) name_at: usize,
+    pub(crate) equals: usize,
+    pub(crate) number: i32,
+    pub(crate) number_at: usize,
+}
+
+/// `printf("%d\n", *N);`: the name, and the offsets of the name and of `*`.
+#[derive(Debug, Drop)]
+pub(crate) struct Show {
+    pub(crate) name: Seq<u8>,
+    pub(crate) name_at: usize,
+    pub(crate) star: usize,
+}
+
+/// `free(N);`: the name and its offset.
+#[derive(Debug, Drop)]
+pub(crate) struct Release {
+    pub(crate) name: Seq<u8>,
+    pub(crate) name_at: usize,
+}
+
 /// The whole text: its steps, the constant that it returns, and the offsets of `main`, of the body's
-/// `{`, of `return`, of the constant, behind the `;` of the return, and of the body's `}`.
+/// `{`, of `return`, of the constant, behind the `;` of the return, of the body's `}` and behind it.
 #[derive(Debug, Drop)]
 pub(crate) struct Draft {
     pub(crate) steps: Seq<Step>,
@@ -77,4 +93,5 @@ pub(crate) struct Draft {
     pub(crate) number_at: usize,
     pub(crate) return_end: usize,
     pub(crate) close_at: usize,
+    pub(crate) close_end: usize,
 }

@@ -5,7 +5,7 @@ ghost use Rattle.c_lexer.specs.declared.token.Token.{Token};
 ghost use Rattle.memfix_engine.specs.declared.draft.Draft.{Draft};
 ghost use Rattle.memfix_engine.specs.Form.{fits, matches, head_pattern, tail_pattern, wants, start_at, end_at, word_at, word_of, number_of, is_letter_name, number_at, deed_of, last_of, step_of, candidate, begins, pattern_at, draft_of, Spells, Steps, IsForm};
 
-use crate::draft::{Deed, Draft, Pattern, Step, Want};
+use crate::draft::{Deed, Draft, Make, Pattern, Release, Show, Step, Store, Want};
 use crate::kinds::{
     KEY_FREE, KEY_INT, KEY_MALLOC, KEY_PRINTF, KEY_RETURN, KEY_SIZEOF, KEY_VOID, PUNCT_ASSIGN,
     PUNCT_CLOSE, PUNCT_CLOSE_BRACE, PUNCT_COMMA, PUNCT_OPEN, PUNCT_OPEN_BRACE, PUNCT_SEMICOLON,
@@ -215,28 +215,28 @@ fn deed_of(alloc: Global, pattern: Pattern, tokens: &[Token]) -> Result<Deed, Al
     ensures { IfOk result (λ d. d ≡ deed_of pattern tokens.now) }
 {
     Ok(match pattern {
-        Pattern::Make => Deed::Make {
+        Pattern::Make => Deed::Make(Make {
             name: word_at(alloc, tokens, 2)?,
             name_at: start_at(tokens, 2),
             equals: start_at(tokens, 3),
             malloc: start_at(tokens, 4),
-        },
-        Pattern::Store => Deed::Store {
+        }),
+        Pattern::Store => Deed::Store(Store {
             name: word_at(alloc, tokens, 1)?,
             name_at: start_at(tokens, 1),
             equals: start_at(tokens, 2),
             number: number_at(tokens, 3),
             number_at: start_at(tokens, 3),
-        },
-        Pattern::Show => Deed::Show {
+        }),
+        Pattern::Show => Deed::Show(Show {
             name: word_at(alloc, tokens, 5)?,
             name_at: start_at(tokens, 5),
             star: start_at(tokens, 4),
-        },
-        Pattern::Free => Deed::Free {
+        }),
+        Pattern::Free => Deed::Release(Release {
             name: word_at(alloc, tokens, 2)?,
             name_at: start_at(tokens, 2),
-        },
+        }),
         Pattern::Empty => Deed::Empty,
     })
 }
@@ -301,6 +301,7 @@ fn draft_from(steps: Seq<Step>, head: &[Token], tail: &[Token]) -> Draft
         number_at: start_at(tail, 1),
         return_end: end_at(tail, 2),
         close_at: start_at(tail, 3),
+        close_end: end_at(tail, 3),
     }
 }
 

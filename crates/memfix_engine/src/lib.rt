@@ -3,5 +3,7 @@
 
 mod draft;
 mod form;
+mod items;
 mod kinds;
+mod reading;
 mod scan;

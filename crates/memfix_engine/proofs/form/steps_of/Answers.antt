@@ -10,6 +10,7 @@ loop-steps-init c = rw c.new-steps.ensures (omega arith, none)
 pub loop-steps-preserved : goal.loop-steps-preserved
 loop-steps-preserved c =
     let within : c.in-Some.width ≤ length (drop c.loop-steps.at c.args.tokens.now) = search rules in
-    let spelled : Spells c.in-Some.step (take c.in-Some.width (drop c.loop-steps.at c.args.tokens.now)) = search rules in
-    (omega (arith, length-drop c.loop-steps.at c.args.tokens.now),
-     rw c.in_ok-push.ensures.ok (Steps-read _ _ _ _ _ c.loop-steps.invariant.1 spelled))
+    let spelled : Spells c.in-Some.step (take c.in-Some.width (drop c.loop-steps.at c.args.tokens.now)) = search rules in (
+      omega (arith, length-drop c.loop-steps.at c.args.tokens.now),
+      rw c.in_ok-push.ensures.ok (Steps-read _ _ _ _ _ c.loop-steps.invariant.1 spelled),
+    )

@@ -1,0 +1,6 @@
+use Rattle.std.proofs.Common.{◌≡◌, drop}
+use Rattle.memfix_engine.specs.Reading.{nothing_read, read_from}
+use Rattle.memfix_engine.proofs.reading.read_steps.Given as goal
+
+abbrev pub invariant-loop-step : goal.invariant-loop-step
+invariant-loop-step l = read_from nothing_read l.steps ≡ read_from l.reading (drop l.step-index l.steps)
