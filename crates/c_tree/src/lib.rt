@@ -2,10 +2,12 @@
 #![tactic(auto)]
 
 mod choice;
+mod duplicate;
 mod expr;
 mod program;
 
 pub use choice::{Choice, Put};
+pub use duplicate::Duplicate;
 pub use expr::{Expr, Op, Oper, Sign};
 pub use program::{
     Arm, Block, Call, Declr, FieldDef, ForHead, Free, FunDef, Gap, Home, Item, Piece, Program,
