@@ -2,11 +2,13 @@
 #![tactic(auto)]
 
 mod choice;
+mod copy;
 mod duplicate;
 mod expr;
 mod program;
 
 pub use choice::{Choice, Put};
+pub use copy::{fill, skeleton};
 pub use duplicate::Duplicate;
 pub use expr::{Expr, Op, Oper, Sign};
 pub use program::{
