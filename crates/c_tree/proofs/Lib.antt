@@ -1,2 +1,3 @@
+pub mod Fills
 pub mod Puts
-pub mod Regap
+pub mod Rebuilds
