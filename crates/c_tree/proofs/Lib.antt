@@ -1,3 +1,4 @@
 pub mod Fills
+pub mod Pointwise
 pub mod Puts
 pub mod Rebuilds

@@ -1,6 +1,7 @@
 //! A C program as a tree: its types, its gaps, and the choices of `free` statements that fill them.
 #![tactic(auto)]
 
+mod alike;
 mod choice;
 mod copy;
 mod duplicate;
