@@ -13,10 +13,10 @@ pointwise_step {A} E xs ys i x y below below' is is' =
 
 pub pointwise_stops : {A : Type 0} (E : A → A → Bool) (xs ys : List A) (i : ℕ) (x y : A) → i < length xs → i < length ys → x ≡ get_or xs i x → y ≡ get_or ys i y
     → E x y ≡ false → pointwise E (drop i xs) (drop i ys) ≡ false
-pointwise_stops E xs ys i x y below below' is is' no =
-    pointwise_step E xs ys i x y below below' is is' ∙ ap (λ (b : Bool). b && pointwise E (drop (i + 1) xs) (drop (i + 1) ys)) no
+pointwise_stops E xs ys i x y below below' is is' differs =
+    pointwise_step E xs ys i x y below below' is is' ∙ ap (λ (b : Bool). b && pointwise E (drop (i + 1) xs) (drop (i + 1) ys)) differs
 
 pub pointwise_goes_on : {A : Type 0} (E : A → A → Bool) (xs ys : List A) (i : ℕ) (x y : A) → i < length xs → i < length ys → x ≡ get_or xs i x → y ≡ get_or ys i y
     → E x y ≡ true → pointwise E (drop i xs) (drop i ys) ≡ pointwise E (drop (i + 1) xs) (drop (i + 1) ys)
-pointwise_goes_on E xs ys i x y below below' is is' yes =
-    pointwise_step E xs ys i x y below below' is is' ∙ ap (λ (b : Bool). b && pointwise E (drop (i + 1) xs) (drop (i + 1) ys)) yes
+pointwise_goes_on E xs ys i x y below below' is is' passes =
+    pointwise_step E xs ys i x y below below' is is' ∙ ap (λ (b : Bool). b && pointwise E (drop (i + 1) xs) (drop (i + 1) ys)) passes

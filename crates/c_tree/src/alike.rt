@@ -230,6 +230,7 @@ impl Alike for VarDef {
 }
 
 #[cycle(tests)]
+#[tactic(auto, using(crate::proofs::Opens::block_opens))]
 fn blocks_alike(a: &Block, b: &Block) -> bool
     ensures { result ≡ alike_block a.now b.now }
 {
@@ -259,6 +260,7 @@ fn is_piece_alike(a: &Piece, b: &Piece) -> bool
 }
 
 #[cycle(tests)]
+#[tactic(auto, using(crate::proofs::Opens::if_opens))]
 fn items_alike(a: &Item, b: &Item) -> bool
     ensures { result ≡ alike_item a.now b.now }
 {
