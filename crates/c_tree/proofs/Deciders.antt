@@ -52,3 +52,10 @@ applied t [] [] = refl
 applied t [] (y ∷ ys) = refl
 applied t (x ∷ xs) [] = refl
 applied t (x ∷ xs) (y ∷ ys) = ap (λ (b : Bool). t x y && b) (applied t xs ys)
+
+pub held_option_decides : {A B : Type 0} (t : A → A → Bool) (f : A → B) (x : Option ((x : A) × ((y : A) → Decides (t x y) (f x ≡ f y)))) (y : Option A)
+    → Decides (option_alike (λ g y. g y) (option_map t (option_map (λ e. e.0) x)) y) (option_map f (option_map (λ e. e.0) x) ≡ option_map f y)
+held_option_decides t f None None = (λ _. refl, λ _. refl)
+held_option_decides t f None (Some y) = (λ e. cc, λ e. cc)
+held_option_decides t f (Some x) None = (λ e. cc, λ e. cc)
+held_option_decides t f (Some x) (Some y) = Decides-like (t x.0 y) (λ e. cc) (λ e. cc) (x.1 y)

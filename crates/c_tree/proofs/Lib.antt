@@ -1,4 +1,6 @@
+pub mod AlikeBlock
 pub mod AlikeExpr
+pub mod AlikeParts
 pub mod Deciders
 pub mod Fills
 pub mod Opens
