@@ -1,6 +1,8 @@
 pub mod AlikeBlock
 pub mod AlikeExpr
 pub mod AlikeParts
+pub mod AlikeProgram
+pub mod Alikes
 pub mod Deciders
 pub mod Fills
 pub mod Opens

@@ -1,4 +1,6 @@
-ghost use Rattle.std.specs.Prelude.{◌≡◌};
+ghost use Rattle.std.specs.Prelude.{◌≡◌, ◌↔◌, IsTrue};
+ghost use Rattle.c_tree.specs.Alike.{IsAlike};
+ghost use Rattle.c_tree.specs.Fill.{skeleton};
 ghost use Rattle.std.specs.Cmp.Lexicographic.{pointwise};
 ghost use Rattle.c_tree.specs.Tests.{
     alike_arm, alike_block, alike_call, alike_declr, alike_expr, alike_field, alike_fun, alike_head, alike_item,
@@ -334,4 +336,12 @@ fn programs_alike(a: &Program, b: &Program) -> bool
         && all_alike(a.structs.as_slice(), b.structs.as_slice())
         && all_alike(a.vars.as_slice(), b.vars.as_slice())
         && all_alike(a.funs.as_slice(), b.funs.as_slice())
+}
+
+/// Whether two programs are alike once the `free` statements in their gaps are taken out: equal
+/// but for offsets and for whether a body has braces.
+pub fn same_skeleton(a: &Program, b: &Program) -> bool
+    ensures { IsTrue result ↔ IsAlike (skeleton a.now) (skeleton b.now) }
+{
+    programs_alike(a, b)
 }

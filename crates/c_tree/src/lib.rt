@@ -9,6 +9,7 @@ mod expr;
 mod program;
 
 pub use choice::{Choice, Put};
+pub use alike::same_skeleton;
 pub use copy::{fill, skeleton};
 pub use duplicate::Duplicate;
 pub use expr::{Expr, Op, Oper, Sign};
