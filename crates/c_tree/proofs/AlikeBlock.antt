@@ -5,7 +5,7 @@ use Rattle.std.specs.Cmp.Lexicographic.{pointwise}
 use Rattle.std.proofs.lemmas.Bool.Decides.{Decides-and, Decides-like, Decides-at, Decides-eqb}
 use Rattle.c_tree.specs.Fill.{emptied, regapped_block}
 use Rattle.c_tree.specs.Alike.{bare_expr, bare_right, bare_declr, bare_head, bare_gap, bare_item, bare_block}
-use Rattle.c_tree.specs.Tests.{option_alike, alike_expr, alike_call, alike_right, alike_declr, alike_simple, alike_head, item_layer, arm_layer, block_layer, piece_layer, alike_item, alike_arm, alike_block, alike_piece}
+use Rattle.c_tree.specs.AlikeTest.{option_alike, alike_expr, alike_call, alike_right, alike_declr, alike_simple, alike_head, item_layer, arm_layer, block_layer, piece_layer, alike_item, alike_arm, alike_block, alike_piece}
 use Rattle.c_tree.proofs.Deciders.{pointwise_decides, option_decides, held_decides, held_option_decides}
 use Rattle.c_tree.proofs.AlikeExpr.{expr_decides}
 use Rattle.c_tree.proofs.AlikeParts.{call_decides, right_decides, declr_decides, simple_decides, head_decides}

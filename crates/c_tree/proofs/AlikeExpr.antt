@@ -4,7 +4,7 @@ use Rattle.std.specs.Bool.{Decides}
 use Rattle.std.specs.Ordering.{int_eq}
 use Rattle.std.proofs.lemmas.Bool.Decides.{Decides-and, Decides-like, Decides-at, Decides-eqb, Decides-int_eq}
 use Rattle.c_tree.specs.Alike.{bare_layer, bare_expr}
-use Rattle.c_tree.specs.Tests.{same_op, same_sign, same_oper, alike_layer, alike_expr}
+use Rattle.c_tree.specs.AlikeTest.{same_op, same_sign, same_oper, alike_layer, alike_expr}
 use Rattle.c_tree.specs.declared.expr.Op.{Op}
 use Rattle.c_tree.specs.declared.expr.Op.TheVariants as op
 use Rattle.c_tree.specs.declared.expr.Sign.{Sign}

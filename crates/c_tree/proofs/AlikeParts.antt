@@ -6,7 +6,7 @@ use Rattle.std.specs.Cmp.Lexicographic.{pointwise}
 use Rattle.std.proofs.lemmas.Bool.Decides.{Decides-and, Decides-like, Decides-eqb, Decides-int_eq}
 use Rattle.std.proofs.lemmas.Slice.Eq.{bytes_eq-Decides}
 use Rattle.c_tree.specs.Alike.{bare_expr, bare_size, bare_call, bare_right, bare_declr, bare_simple, bare_start, bare_head, bare_struct, bare_var}
-use Rattle.c_tree.specs.Tests.{option_alike, same_op, same_ty, same_home, alike_expr, alike_size, alike_call, alike_right, alike_declr, alike_simple, alike_start, alike_head, alike_field, alike_struct, alike_var}
+use Rattle.c_tree.specs.AlikeTest.{option_alike, same_op, same_ty, same_home, alike_expr, alike_size, alike_call, alike_right, alike_declr, alike_simple, alike_start, alike_head, alike_field, alike_struct, alike_var}
 use Rattle.c_tree.proofs.Deciders.{pointwise_decides, option_decides, list_decides}
 use Rattle.c_tree.proofs.AlikeExpr.{op_decides, expr_decides}
 use Rattle.c_tree.specs.declared.program.Declr.{Declr}

@@ -7,7 +7,7 @@ use Rattle.std.proofs.lemmas.Slice.Eq.{bytes_eq-Decides}
 use Rattle.std.proofs.lemmas.Simd.{map-map}
 use Rattle.c_tree.specs.Fill.{emptied, regapped_block, regapped_fun, skeleton}
 use Rattle.c_tree.specs.Alike.{bare_struct, bare_var, bare_fun, bare_block, bare, IsAlike}
-use Rattle.c_tree.specs.Tests.{option_alike, same_ty, alike_block, alike_struct, alike_var, alike_fun, alike_program}
+use Rattle.c_tree.specs.AlikeTest.{option_alike, same_ty, alike_block, alike_struct, alike_var, alike_fun, alike_program}
 use Rattle.c_tree.proofs.Deciders.{pointwise_decides, same_option_decides}
 use Rattle.c_tree.proofs.AlikeParts.{ty_decides, struct_decides, var_decides}
 use Rattle.c_tree.proofs.AlikeBlock.{block_decides}

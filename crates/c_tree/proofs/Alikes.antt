@@ -186,13 +186,13 @@ funs_regapped f h (d ∷ ds) =
 bare_regapped : (f : Gap → Gap) → ((g : Gap) → f (bare_gap g) ≡ bare_gap (f g)) → (p : Program) → bare (regapped f p) ≡ regapped f (bare p)
 bare_regapped f h p = ap (λ (x : List FunDef). record { structs = map bare_struct p.structs; vars = map bare_var p.vars; funs = x; main = p.main; gaps = p.gaps; calls = p.calls }) (funs_regapped f h p.funs)
 
-bare_variable : (x : ℕ) → bare_expr (expr.Var x 0) ≡ expr.Var x 0
-bare_variable x = ap bare_expr (sym (expr.rolls-Var x 0)) ∙ bare_rolled (Var x 0) ∙ expr.rolls-Var x 0
+pub bare_variable : (x at : ℕ) → bare_expr (expr.Var x at) ≡ expr.Var x 0
+bare_variable x at = ap bare_expr (sym (expr.rolls-Var x at)) ∙ bare_rolled (Var x at) ∙ expr.rolls-Var x 0
 
 bare_pointing : (x : ℕ) (f : Option ℕ) → bare_expr (pointing x f) ≡ pointing x f
-bare_pointing x None = bare_variable x
+bare_pointing x None = bare_variable x 0
 bare_pointing x (Some f) = ap bare_expr (sym (expr.rolls-Field (expr.Var x 0) f 0)) ∙ bare_rolled (Field (expr.Var x 0) f 0)
-    ∙ ap (λ (z : Expr). roll-Expr (Field z f 0)) (bare_variable x) ∙ expr.rolls-Field (expr.Var x 0) f 0
+    ∙ ap (λ (z : Expr). roll-Expr (Field z f 0)) (bare_variable x 0) ∙ expr.rolls-Field (expr.Var x 0) f 0
 
 bare_free_of : (q : Put) → bare_free (free_of q) ≡ free_of q
 bare_free_of q = ap (λ (e : Expr). record { expr = e; start = 0; end = 0 }) (bare_pointing q.var q.field)

@@ -3,7 +3,7 @@ use Rattle.std.proofs.Common.{◌≡◌, ℕ, Bool, true, false, ◌==◌, ◌&&
 use Rattle.std.specs.Bool.{Decides}
 use Rattle.std.specs.Cmp.Lexicographic.{pointwise}
 use Rattle.std.proofs.lemmas.Bool.Decides.{Decides-and, Decides-like}
-use Rattle.c_tree.specs.Tests.{option_alike}
+use Rattle.c_tree.specs.AlikeTest.{option_alike}
 
 pub two_elements : {B : Type 0} (x y : B) (xs ys : List B) → (x ≡ y) × (xs ≡ ys) → x ∷ xs ≡ y ∷ ys
 two_elements {B} x y xs ys (p, q) = ap (λ (z : B). z ∷ xs) p ∙ ap (λ (zs : List B). y ∷ zs) q

@@ -4,8 +4,8 @@ pub mod AlikeParts
 pub mod AlikeProgram
 pub mod Alikes
 pub mod Deciders
+pub mod Examples
 pub mod Fills
 pub mod Opens
-pub mod Pointwise
 pub mod Puts
 pub mod Rebuilds

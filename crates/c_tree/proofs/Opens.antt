@@ -1,7 +1,7 @@
 -- The tests of a block and of an `if`, one level opened.
 use Rattle.std.proofs.Common.{◌≡◌, Bool, ◌==◌, ◌&&◌, List, map, Option, Some, None, refl, ap, sym, ◌∙◌}
 use Rattle.std.specs.Cmp.Lexicographic.{pointwise}
-use Rattle.c_tree.specs.Tests.{item_layer, arm_layer, block_layer, piece_layer, alike_item, alike_arm, alike_block, alike_piece, option_alike}
+use Rattle.c_tree.specs.AlikeTest.{item_layer, arm_layer, block_layer, piece_layer, alike_item, alike_arm, alike_block, alike_piece, option_alike}
 use Rattle.c_tree.proofs.Deciders.{applied}
 use Rattle.c_tree.specs.declared.program.Block.{Block, Block-F, out-Block, fold_out-Block}
 use Rattle.c_tree.specs.declared.program.Piece.{Piece, out-Piece}

@@ -1,4 +1,4 @@
 pub mod Alike
 pub mod Copies
 pub mod Fill
-pub mod Tests
+pub mod AlikeTest

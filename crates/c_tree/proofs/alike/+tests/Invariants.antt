@@ -1,7 +1,7 @@
 -- The rest decides.
 use Rattle.std.proofs.Common.{◌≡◌, drop}
 use Rattle.std.specs.Cmp.Lexicographic.{pointwise}
-use Rattle.c_tree.specs.Tests.{alike_arm, alike_piece}
+use Rattle.c_tree.specs.AlikeTest.{alike_arm, alike_piece}
 use Rattle.c_tree.proofs.alike.+tests.Given as goal
 
 abbrev pub invariant-arms_alike-loop-i : goal.invariant-arms_alike-loop-i

@@ -1,6 +1,6 @@
 -- The test decides.
 use Rattle.std.proofs.lemmas.Bool.Decides.{Decides-at}
-use Rattle.c_tree.specs.Tests.{alike_program}
+use Rattle.c_tree.specs.AlikeTest.{alike_program}
 use Rattle.c_tree.proofs.AlikeProgram.{program_decides}
 use Rattle.c_tree.proofs.alike.same_skeleton.Goals as goal
 
