@@ -44,7 +44,7 @@ outline = rebuilt outline_layers
 pub outline_is : (b : Block) → bare_block (regapped_block emptied b) ≡ outline.block b
 outline_is = same_block (after (rebuilt bare_layers) (rebuilt (gap_layers emptied))) outline outline_layers
     (after_rebuilds (rebuilt bare_layers) (rebuilt (gap_layers emptied)) bare_layers (gap_layers emptied) outline_layers (rebuilt_rebuilds bare_layers) (rebuilt_rebuilds (gap_layers emptied))
-      (gaps_commute (rebuilt bare_layers) emptied) (record { item = λ x. refl; arm = λ x. refl; block = λ x. refl; piece = λ x. refl }))
+    (gaps_commute (rebuilt bare_layers) emptied) (record { item = λ x. refl; arm = λ x. refl; block = λ x. refl; piece = λ x. refl }))
     (rebuilt_rebuilds outline_layers)
 
 abbrev DecidedItem : Item → Type 0
@@ -158,9 +158,9 @@ step_item x y is b =
     let right : outline.item b ≡ roll-Item (bare_item (in_item outline m)) = ap outline.item (sym (roll-out-Item b)) ∙ (rebuilt_rebuilds outline_layers).item m in
     Decides-at (alike_item (roll-Item x) b) (item_layer (tested_item x) m) test
     (Decides-like (item_layer (tested_item x) m)
-      (λ e. left ∙ ap (λ (z : Item-F Item Arm Block Piece). roll-Item z) e ∙ sym right)
-      (λ e. sym (out-roll-Item (bare_item (in_item outline x))) ∙ ap out-Item (sym left ∙ e ∙ right) ∙ out-roll-Item (bare_item (in_item outline m)))
-      layer)
+    (λ e. left ∙ ap (λ (z : Item-F Item Arm Block Piece). roll-Item z) e ∙ sym right)
+    (λ e. sym (out-roll-Item (bare_item (in_item outline x))) ∙ ap out-Item (sym left ∙ e ∙ right) ∙ out-roll-Item (bare_item (in_item outline m)))
+    layer)
 
 step_arm : (x : Arm-F Item Arm Block Piece) (y : Arm-F ((i : Item) × DecidedItem i) ((a : Arm) × DecidedArm a) ((b : Block) × DecidedBlock b) ((p : Piece) × DecidedPiece p)) → plain_arm y ≡ x → DecidedArm (roll-Arm x)
 step_arm x y is b =
@@ -171,9 +171,9 @@ step_arm x y is b =
     let right : outline.arm b ≡ roll-Arm (outline_layers.arm (in_arm outline m)) = ap outline.arm (sym (roll-out-Arm b)) ∙ (rebuilt_rebuilds outline_layers).arm m in
     Decides-at (alike_arm (roll-Arm x) b) (arm_layer (tested_arm x) m) test
     (Decides-like (arm_layer (tested_arm x) m)
-      (λ e. left ∙ ap (λ (z : Arm-F Item Arm Block Piece). roll-Arm z) e ∙ sym right)
-      (λ e. sym (out-roll-Arm (outline_layers.arm (in_arm outline x))) ∙ ap out-Arm (sym left ∙ e ∙ right) ∙ out-roll-Arm (outline_layers.arm (in_arm outline m)))
-      layer)
+    (λ e. left ∙ ap (λ (z : Arm-F Item Arm Block Piece). roll-Arm z) e ∙ sym right)
+    (λ e. sym (out-roll-Arm (outline_layers.arm (in_arm outline x))) ∙ ap out-Arm (sym left ∙ e ∙ right) ∙ out-roll-Arm (outline_layers.arm (in_arm outline m)))
+    layer)
 
 step_block : (x : Block-F Item Arm Block Piece) (y : Block-F ((i : Item) × DecidedItem i) ((a : Arm) × DecidedArm a) ((b : Block) × DecidedBlock b) ((p : Piece) × DecidedPiece p)) → plain_block y ≡ x → DecidedBlock (roll-Block x)
 step_block x y is b =
@@ -184,9 +184,9 @@ step_block x y is b =
     let right : outline.block b ≡ roll-Block (outline_layers.block (in_block outline m)) = ap outline.block (sym (roll-out-Block b)) ∙ (rebuilt_rebuilds outline_layers).block m in
     Decides-at (alike_block (roll-Block x) b) (block_layer (tested_block x) m) test
     (Decides-like (block_layer (tested_block x) m)
-      (λ e. left ∙ ap (λ (z : Block-F Item Arm Block Piece). roll-Block z) e ∙ sym right)
-      (λ e. sym (out-roll-Block (outline_layers.block (in_block outline x))) ∙ ap out-Block (sym left ∙ e ∙ right) ∙ out-roll-Block (outline_layers.block (in_block outline m)))
-      layer)
+    (λ e. left ∙ ap (λ (z : Block-F Item Arm Block Piece). roll-Block z) e ∙ sym right)
+    (λ e. sym (out-roll-Block (outline_layers.block (in_block outline x))) ∙ ap out-Block (sym left ∙ e ∙ right) ∙ out-roll-Block (outline_layers.block (in_block outline m)))
+    layer)
 
 step_piece : (x : Piece-F Item Arm Block Piece) (y : Piece-F ((i : Item) × DecidedItem i) ((a : Arm) × DecidedArm a) ((b : Block) × DecidedBlock b) ((p : Piece) × DecidedPiece p)) → plain_piece y ≡ x → DecidedPiece (roll-Piece x)
 step_piece x y is b =
@@ -197,9 +197,9 @@ step_piece x y is b =
     let right : outline.piece b ≡ roll-Piece (outline_layers.piece (in_piece outline m)) = ap outline.piece (sym (roll-out-Piece b)) ∙ (rebuilt_rebuilds outline_layers).piece m in
     Decides-at (alike_piece (roll-Piece x) b) (piece_layer (tested_piece x) m) test
     (Decides-like (piece_layer (tested_piece x) m)
-      (λ e. left ∙ ap (λ (z : Piece-F Item Arm Block Piece). roll-Piece z) e ∙ sym right)
-      (λ e. sym (out-roll-Piece (outline_layers.piece (in_piece outline x))) ∙ ap out-Piece (sym left ∙ e ∙ right) ∙ out-roll-Piece (outline_layers.piece (in_piece outline m)))
-      layer)
+    (λ e. left ∙ ap (λ (z : Piece-F Item Arm Block Piece). roll-Piece z) e ∙ sym right)
+    (λ e. sym (out-roll-Piece (outline_layers.piece (in_piece outline x))) ∙ ap out-Piece (sym left ∙ e ∙ right) ∙ out-roll-Piece (outline_layers.piece (in_piece outline m)))
+    layer)
 
 outlines_decide : (a b : Block) → Decides (alike_block a b) (outline.block a ≡ outline.block b)
 outlines_decide = ind-Block DecidedItem DecidedArm DecidedBlock DecidedPiece step_item step_arm step_block step_piece

@@ -70,15 +70,15 @@ layer_decides _ _ = (λ e. cc, λ e. cc)
 step : (x : Expr-F Expr) (y : Expr-F ((a : Expr) × Decided a)) → plain y ≡ x → Decided (roll-Expr x)
 step x y is b =
     let layer : Decides (alike_layer (tests x) (out-Expr b)) (bared x ≡ bared (out-Expr b)) =
-      subst (λ (z : Expr-F Expr). Decides (alike_layer (tests z) (out-Expr b)) (bared z ≡ bared (out-Expr b))) is (layer_decides y (out-Expr b)) in
+    subst (λ (z : Expr-F Expr). Decides (alike_layer (tests z) (out-Expr b)) (bared z ≡ bared (out-Expr b))) is (layer_decides y (out-Expr b)) in
     let test : alike_expr (roll-Expr x) b ≡ alike_layer (tests x) (out-Expr b) = ap (λ (f : Expr → Bool). f b) (fold-roll-Expr (Expr → Bool) (λ l e. alike_layer l (out-Expr e)) x) in
     let left : bare_expr (roll-Expr x) ≡ roll-Expr (bared x) = fold-roll-Expr Expr (λ l. roll-Expr (bare_layer l)) x in
     let right : bare_expr b ≡ roll-Expr (bared (out-Expr b)) = fold_out-Expr Expr (λ l. roll-Expr (bare_layer l)) b in
     Decides-at (alike_expr (roll-Expr x) b) (alike_layer (tests x) (out-Expr b)) test
     (Decides-like (alike_layer (tests x) (out-Expr b))
-      (λ e. left ∙ ap (λ (z : Expr-F Expr). roll-Expr z) e ∙ sym right)
-      (λ e. sym (out-roll-Expr (bared x)) ∙ ap out-Expr (sym left ∙ e ∙ right) ∙ out-roll-Expr (bared (out-Expr b)))
-      layer)
+    (λ e. left ∙ ap (λ (z : Expr-F Expr). roll-Expr z) e ∙ sym right)
+    (λ e. sym (out-roll-Expr (bared x)) ∙ ap out-Expr (sym left ∙ e ∙ right) ∙ out-roll-Expr (bared (out-Expr b)))
+    layer)
 
 pub expr_decides : (a b : Expr) → Decides (alike_expr a b) (bare_expr a ≡ bare_expr b)
 expr_decides = ind-Expr Decided step

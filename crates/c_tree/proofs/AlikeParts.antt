@@ -58,7 +58,7 @@ pub simple_decides : (a b : Simple) → Decides (alike_simple a b) (bare_simple 
 simple_decides a b = Decides-like (alike_simple a b) (λ ((p, q), r). cc)
     (λ e. ((ap (λ (s : Simple). s.place) e, ap (λ (s : Simple). s.op) e), ap (λ (s : Simple). s.right) e))
     (Decides-and (alike_expr a.place b.place && same_op a.op b.op) (alike_right a.right b.right)
-      (Decides-and (alike_expr a.place b.place) (same_op a.op b.op) (expr_decides a.place b.place) (op_decides a.op b.op)) (right_decides a.right b.right))
+    (Decides-and (alike_expr a.place b.place) (same_op a.op b.op) (expr_decides a.place b.place) (op_decides a.op b.op)) (right_decides a.right b.right))
 
 pub start_decides : (a b : Start) → Decides (alike_start a b) (bare_start a ≡ bare_start b)
 start_decides (start.Declare a) (start.Declare b) = Decides-like (alike_declr a b) (λ e. cc) (λ e. cc) (declr_decides a b)
@@ -69,8 +69,8 @@ pub head_decides : (a b : ForHead) → Decides (alike_head a b) (bare_head a ≡
 head_decides a b = Decides-like (alike_head a b) (λ ((p, q), r). cc)
     (λ e. ((ap (λ (h : ForHead). h.start) e, ap (λ (h : ForHead). h.test) e), ap (λ (h : ForHead). h.step) e))
     (Decides-and (pointwise alike_start a.start b.start && option_alike alike_expr a.test b.test) (option_alike alike_simple a.step b.step)
-      (Decides-and (pointwise alike_start a.start b.start) (option_alike alike_expr a.test b.test) (pointwise_decides alike_start bare_start start_decides a.start b.start) (option_decides alike_expr bare_expr expr_decides a.test b.test))
-      (option_decides alike_simple bare_simple simple_decides a.step b.step))
+    (Decides-and (pointwise alike_start a.start b.start) (option_alike alike_expr a.test b.test) (pointwise_decides alike_start bare_start start_decides a.start b.start) (option_decides alike_expr bare_expr expr_decides a.test b.test))
+    (option_decides alike_simple bare_simple simple_decides a.step b.step))
 
 pub ty_decides : (a b : Ty) → Decides (same_ty a b) (a ≡ b)
 ty_decides ty.Int ty.Int = (λ _. refl, λ _. refl)
@@ -95,10 +95,10 @@ pub struct_decides : (a b : StructDef) → Decides (alike_struct a b) (bare_stru
 struct_decides a b = Decides-like (alike_struct a b) (λ (p, q). cc)
     (λ e. (ap (λ (s : StructDef). s.fields) e, ap (λ (s : StructDef). s.body) e))
     (Decides-and (pointwise alike_field a.fields b.fields) (option_alike (λ x y. true) a.body b.body) (list_decides alike_field field_decides a.fields b.fields)
-      (option_decides (λ x y. true) (λ _. 0) (λ x y. (λ _. refl, λ _. refl)) a.body b.body))
+    (option_decides (λ x y. true) (λ _. 0) (λ x y. (λ _. refl, λ _. refl)) a.body b.body))
 
 pub var_decides : (a b : VarDef) → Decides (alike_var a b) (bare_var a ≡ bare_var b)
 var_decides a b = Decides-like (alike_var a b) (λ ((p, q), r). cc)
     (λ e. ((ap (λ (v : VarDef). v.name) e, ap (λ (v : VarDef). v.ty) e), ap (λ (v : VarDef). v.home) e))
     (Decides-and (pointwise nat_eq a.name b.name && same_ty a.ty b.ty) (same_home a.home b.home)
-      (Decides-and (pointwise nat_eq a.name b.name) (same_ty a.ty b.ty) (bytes_eq-Decides a.name b.name) (ty_decides a.ty b.ty)) (home_decides a.home b.home))
+    (Decides-and (pointwise nat_eq a.name b.name) (same_ty a.ty b.ty) (bytes_eq-Decides a.name b.name) (ty_decides a.ty b.ty)) (home_decides a.home b.home))

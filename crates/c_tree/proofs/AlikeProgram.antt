@@ -24,15 +24,15 @@ bare_skeleton d = bare_fun (regapped_fun emptied d)
 fun_decides : (a b : FunDef) → Decides (alike_fun a b) (bare_skeleton a ≡ bare_skeleton b)
 fun_decides a b = Decides-like (alike_fun a b)
     (λ (((n, r), p), e). ap (λ (x : List ℕ). record { name = x; result = a.result; params = a.params; body = bare_block (regapped_block emptied a.body); at = 0 }) n
-      ∙ ap (λ (x : Option Ty). record { name = b.name; result = x; params = a.params; body = bare_block (regapped_block emptied a.body); at = 0 }) r
-      ∙ ap (λ (x : List ℕ). record { name = b.name; result = b.result; params = x; body = bare_block (regapped_block emptied a.body); at = 0 }) p
-      ∙ ap (λ (x : Block). record { name = b.name; result = b.result; params = b.params; body = x; at = 0 }) e)
+    ∙ ap (λ (x : Option Ty). record { name = b.name; result = x; params = a.params; body = bare_block (regapped_block emptied a.body); at = 0 }) r
+    ∙ ap (λ (x : List ℕ). record { name = b.name; result = b.result; params = x; body = bare_block (regapped_block emptied a.body); at = 0 }) p
+    ∙ ap (λ (x : Block). record { name = b.name; result = b.result; params = b.params; body = x; at = 0 }) e)
     (λ e. (((ap (λ (d : FunDef). d.name) e, ap (λ (d : FunDef). d.result) e), ap (λ (d : FunDef). d.params) e), ap (λ (d : FunDef). d.body) e))
     (Decides-and ((pointwise nat_eq a.name b.name && option_alike same_ty a.result b.result) && pointwise nat_eq a.params b.params) (alike_block a.body b.body)
-      (Decides-and (pointwise nat_eq a.name b.name && option_alike same_ty a.result b.result) (pointwise nat_eq a.params b.params)
-        (Decides-and (pointwise nat_eq a.name b.name) (option_alike same_ty a.result b.result) (bytes_eq-Decides a.name b.name) (same_option_decides same_ty ty_decides a.result b.result))
-        (bytes_eq-Decides a.params b.params))
-      (block_decides a.body b.body))
+    (Decides-and (pointwise nat_eq a.name b.name && option_alike same_ty a.result b.result) (pointwise nat_eq a.params b.params)
+    (Decides-and (pointwise nat_eq a.name b.name) (option_alike same_ty a.result b.result) (bytes_eq-Decides a.name b.name) (same_option_decides same_ty ty_decides a.result b.result))
+    (bytes_eq-Decides a.params b.params))
+    (block_decides a.body b.body))
 
 abbrev made : List StructDef → List VarDef → List FunDef → ℕ → ℕ → ℕ → Program
 made ss vs fs m g c = record { structs = ss; vars = vs; funs = fs; main = m; gaps = g; calls = c }
@@ -57,9 +57,9 @@ program_decides a b = Decides-like (alike_program a b)
     (same_made (map bare_struct a.structs) (map bare_struct b.structs) (map bare_var a.vars) (map bare_var b.vars) (map bare_fun (map (regapped_fun emptied) a.funs)) (map bare_fun (map (regapped_fun emptied) b.funs)) a.main b.main a.gaps b.gaps a.calls b.calls)
     (same_parts (bare (skeleton a)) (bare (skeleton b)))
     (Decides-and _ (pointwise alike_fun a.funs b.funs)
-      (Decides-and _ (pointwise alike_var a.vars b.vars)
-        (Decides-and _ (pointwise alike_struct a.structs b.structs)
-          (Decides-and _ (a.calls == b.calls) (Decides-and (a.main == b.main) (a.gaps == b.gaps) (Decides-eqb a.main b.main) (Decides-eqb a.gaps b.gaps)) (Decides-eqb a.calls b.calls))
-          (pointwise_decides alike_struct bare_struct struct_decides a.structs b.structs))
-        (pointwise_decides alike_var bare_var var_decides a.vars b.vars))
-      (funs_decide a.funs b.funs))
+    (Decides-and _ (pointwise alike_var a.vars b.vars)
+    (Decides-and _ (pointwise alike_struct a.structs b.structs)
+    (Decides-and _ (a.calls == b.calls) (Decides-and (a.main == b.main) (a.gaps == b.gaps) (Decides-eqb a.main b.main) (Decides-eqb a.gaps b.gaps)) (Decides-eqb a.calls b.calls))
+    (pointwise_decides alike_struct bare_struct struct_decides a.structs b.structs))
+    (pointwise_decides alike_var bare_var var_decides a.vars b.vars))
+    (funs_decide a.funs b.funs))

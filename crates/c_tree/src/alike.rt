@@ -3,15 +3,35 @@ ghost use Rattle.c_tree.specs.Alike.{IsAlike};
 ghost use Rattle.c_tree.specs.Fill.{skeleton};
 ghost use Rattle.std.specs.Cmp.Lexicographic.{pointwise};
 ghost use Rattle.c_tree.specs.AlikeTest.{
-    alike_arm, alike_block, alike_call, alike_declr, alike_expr, alike_field, alike_fun, alike_head, alike_item,
-    alike_piece, alike_program, alike_right, alike_simple, alike_size, alike_start, alike_struct, alike_var,
-    option_alike as option_passes, same_home, same_op, same_oper, same_sign, same_ty,
+  alike_arm,
+  alike_block,
+  alike_call,
+  alike_declr,
+  alike_expr,
+  alike_field,
+  alike_fun,
+  alike_head,
+  alike_item,
+  alike_piece,
+  alike_program,
+  alike_right,
+  alike_simple,
+  alike_size,
+  alike_start,
+  alike_struct,
+  alike_var,
+  option_alike as option_passes,
+  same_home,
+  same_op,
+  same_oper,
+  same_sign,
+  same_ty,
 };
 
 use crate::expr::{Expr, Op, Oper, Sign};
 use crate::program::{
-    Arm, Block, Call, Declr, FieldDef, ForHead, FunDef, Home, Item, Piece, Program, Right, Simple, Size,
-    Start, StructDef, Ty, VarDef,
+    Arm, Block, Call, Declr, FieldDef, ForHead, FunDef, Home, Item, Piece, Program, Right, Simple,
+    Size, Start, StructDef, Ty, VarDef,
 };
 use sqlite_items::Boxed;
 

@@ -26,10 +26,18 @@ fn free_of(alloc: Global, put: &Put) -> Result<Free, Memory>
 {
     let base = Expr::Var(put.var, 0);
     match put.field {
-        None => Ok(Free { expr: base, start: 0, end: 0 }),
+        None => Ok(Free {
+            expr: base,
+            start: 0,
+            end: 0,
+        }),
         Some(field) => {
             let expr = Expr::Field(Boxed::new(alloc, base)?, field, 0);
-            Ok(Free { expr, start: 0, end: 0 })
+            Ok(Free {
+                expr,
+                start: 0,
+                end: 0,
+            })
         }
     }
 }
@@ -169,11 +177,7 @@ fn copied_funs(alloc: Global, funs: &[FunDef], puts: Option<&[Put]>) -> Result<S
     Ok(copy)
 }
 
-fn copied_program(
-    alloc: Global,
-    program: &Program,
-    puts: Option<&[Put]>,
-) -> Result<Program, Memory>
+fn copied_program(alloc: Global, program: &Program, puts: Option<&[Put]>) -> Result<Program, Memory>
     requires { AnyAscends (option_copied puts) }
     ensures { IfOk result (λ copy. copy ≡ regapped (regap (option_copied puts.entry)) program.now) }
 {

@@ -8,8 +8,8 @@ mod duplicate;
 mod expr;
 mod program;
 
-pub use choice::{Choice, Put};
 pub use alike::same_skeleton;
+pub use choice::{Choice, Put};
 pub use copy::{fill, skeleton};
 pub use duplicate::Duplicate;
 pub use expr::{Expr, Op, Oper, Sign};
@@ -17,3 +17,6 @@ pub use program::{
     Arm, Block, Call, Declr, FieldDef, ForHead, Free, FunDef, Gap, Home, Item, Piece, Program,
     Right, Simple, Size, Start, StructDef, Ty, VarDef,
 };
+
+#[cfg(test)]
+mod tests;
