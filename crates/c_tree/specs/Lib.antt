@@ -1,2 +1,4 @@
 pub mod Alike
+pub mod Copies
 pub mod Fill
+pub mod AlikeTest

@@ -1,13 +1,22 @@
 //! A C program as a tree: its types, its gaps, and the choices of `free` statements that fill them.
 #![tactic(auto)]
 
+mod alike;
 mod choice;
+mod copy;
+mod duplicate;
 mod expr;
 mod program;
 
+pub use alike::same_skeleton;
 pub use choice::{Choice, Put};
+pub use copy::{fill, skeleton};
+pub use duplicate::Duplicate;
 pub use expr::{Expr, Op, Oper, Sign};
 pub use program::{
     Arm, Block, Call, Declr, FieldDef, ForHead, Free, FunDef, Gap, Home, Item, Piece, Program,
     Right, Simple, Size, Start, StructDef, Ty, VarDef,
 };
+
+#[cfg(test)]
+mod tests;

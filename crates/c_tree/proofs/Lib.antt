@@ -1,0 +1,11 @@
+pub mod AlikeBlock
+pub mod AlikeExpr
+pub mod AlikeParts
+pub mod AlikeProgram
+pub mod Alikes
+pub mod Deciders
+pub mod Examples
+pub mod Fills
+pub mod Opens
+pub mod Puts
+pub mod Rebuilds
