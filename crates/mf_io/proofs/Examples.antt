@@ -1,7 +1,7 @@
 -- The definitions at worked values.
 use Rattle.std.proofs.Common.{◌≡◌, [], ◌∷◌, Some, None, refl, inl, inr, lit<, lit≤}
 use Rattle.mf_io.specs.Bytes.{Gives, Takes, Ended, WasLeft, MoreLeft}
-use Rattle.mf_io.specs.Faults.{Rose, counted}
+use Rattle.mf_io.specs.Faults.{Rose, next_count}
 use Rattle.mf_io.specs.Whole.{Refuses, TakesPart}
 use Rattle.mf_io.specs.declared.whole.ReadRefusal.TheVariants.{TooLong}
 
@@ -31,11 +31,11 @@ rose_by_one = inl (lit< tt)
 stands_at_its_last : Rose 18446744073709551615 18446744073709551615
 stands_at_its_last = inr refl
 
-counted_twice : counted (counted 0) ≡ 2
-counted_twice = refl
+counts_twice : next_count (next_count 0) ≡ 2
+counts_twice = refl
 
-counted_at_its_last : counted 18446744073709551615 ≡ 18446744073709551615
-counted_at_its_last = refl
+stands_still : next_count 18446744073709551615 ≡ 18446744073709551615
+stands_still = refl
 
 -- three bytes came where two were allowed
 refused_as_too_long : Refuses 2 (Some (1 ∷ 2 ∷ 3 ∷ 4 ∷ [])) (Some (4 ∷ [])) TooLong

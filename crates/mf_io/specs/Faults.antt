@@ -6,5 +6,5 @@ abbrev pub Rose : (before after : ℕ) → Type 0
 Rose before after = (before < after) ⊎ (after ≡ 18446744073709551615)
 
 -- the count after one more
-abbrev pub counted : ℕ → ℕ
-counted count = min (count + 1) 18446744073709551615
+abbrev pub next_count : ℕ → ℕ
+next_count count = min (count + 1) 18446744073709551615

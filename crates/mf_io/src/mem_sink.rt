@@ -1,6 +1,6 @@
 // A sink in memory that fails at chosen calls, and where it is full.
 ghost use Rattle.std.specs.Prelude.{◌≡◌, ◌≤◌, ◌-◌, ◌++◌, ◌⊎◌, ◌↔◌, [], length, take, min, Some, IfOk, OnOk, OnErr, IsErr, Contains, vec_len, vec_capacity};
-ghost use Rattle.mf_io.specs.Faults.{counted};
+ghost use Rattle.mf_io.specs.Faults.{next_count};
 
 use crate::{Failed, Memory, Sink};
 use std::alloc::Global;
@@ -64,9 +64,9 @@ impl Sink for MemSink {
 
     ghost faults_fit = { λ sink. sink.faults_fit };
 
-    /// Each call counts, one with an empty piece too. It takes no memory.
+    /// Each call counts, one with an empty piece too, and at a full room each fails.
     fn write(&mut self, piece: &[u8]) -> Result<usize, Failed>
-        ensures calls { self.new.calls ≡ counted self.old.calls }
+        ensures calls { self.new.calls ≡ next_count self.old.calls }
         ensures failing { IsErr result
             ↔ (Contains self.old.failing.items self.new.calls ⊎ (vec_len self.old.taken ≡ self.old.room)) }
 
@@ -76,7 +76,7 @@ impl Sink for MemSink {
         ensures no_fault { OnOk result (self.new.faults ≡ self.old.faults) }
 
         ensures taken { OnErr result (self.new.taken.items ≡ self.old.taken.items) }
-        ensures fault { OnErr result (self.new.faults ≡ counted self.old.faults) }
+        ensures fault { OnErr result (self.new.faults ≡ next_count self.old.faults) }
 
         ensures same_room { self.new.room ≡ self.old.room }
         ensures same_most { self.new.most ≡ self.old.most }

@@ -1,6 +1,6 @@
 // A source in memory that fails at chosen calls.
 ghost use Rattle.std.specs.Prelude.{◌≡◌, ◌≤◌, ◌++◌, ◌↔◌, length, take, min, Some, IfOk, OnOk, OnErr, IsErr, Contains};
-ghost use Rattle.mf_io.specs.Faults.{counted};
+ghost use Rattle.mf_io.specs.Faults.{next_count};
 
 use crate::{Failed, Source, Unread};
 
@@ -53,7 +53,7 @@ impl Source for MemSource {
 
     /// Each call counts, one with no room too.
     fn read(&mut self, room: &mut [u8]) -> Result<usize, Failed>
-        ensures calls { self.new.calls ≡ counted self.old.calls }
+        ensures calls { self.new.calls ≡ next_count self.old.calls }
         ensures failing { IsErr result ↔ Contains self.old.failing.items self.new.calls }
 
         ensures count { IfOk result (λ count. count ≡ min (length room.new) (min self.old.most (length self.old.left))) }
@@ -61,7 +61,7 @@ impl Source for MemSource {
         ensures no_fault { OnOk result (self.new.faults ≡ self.old.faults) }
 
         ensures left { OnErr result (self.new.left ≡ self.old.left) }
-        ensures fault { OnErr result (self.new.faults ≡ counted self.old.faults) }
+        ensures fault { OnErr result (self.new.faults ≡ next_count self.old.faults) }
 
         ensures same_most { self.new.most ≡ self.old.most }
         ensures same_failing { self.new.failing.items ≡ self.old.failing.items }

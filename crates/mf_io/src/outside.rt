@@ -3,10 +3,11 @@ ghost use Rattle.std.specs.Prelude.{◌≡◌, ◌<◌, ◌≤◌, ℕ, Option, 
 ghost use Rattle.mf_io.specs.Bytes.{Gives, Takes, Ended};
 ghost use Rattle.mf_io.specs.Faults.{Rose};
 
-/// A call that failed.
+/// A call that failed. What the source has left, or the sink has taken, is unchanged.
 #[derive(Clone, Copy, Debug, PartialEq, Eq)]
 pub struct Failed;
 
+/// Where bytes come from.
 pub trait Source {
     /// The bytes not yet given, where they are told.
     ghost left: { Self → Option (List ℕ) };
@@ -26,9 +27,11 @@ pub trait Source {
         ensures unchanged { OnErr result (left self.new ≡ left self.old) }
         ensures never_falls { faults self.old ≤ faults self.new };
 
+    // The count stands still at its last number.
     ghost faults_fit: { (source : Self) → faults source ≤ 18446744073709551615 };
 }
 
+/// Where bytes go to.
 pub trait Sink {
     /// The bytes taken so far, where they are told.
     ghost taken: { Self → Option (List ℕ) };
@@ -45,5 +48,6 @@ pub trait Sink {
         ensures unchanged { OnErr result (taken self.new ≡ taken self.old) }
         ensures never_falls { faults self.old ≤ faults self.new };
 
+    // The count stands still at its last number.
     ghost faults_fit: { (sink : Self) → faults sink ≤ 18446744073709551615 };
 }

@@ -1,7 +1,7 @@
-// Sources and sinks over std's readers and writers. They tell nothing of the bytes.
+// A source and a sink over std's readers and writers. As such they tell nothing of the bytes.
 ghost use Rattle.std.specs.Prelude.{◌≡◌, ◌<◌, ◌≤◌, length, take, None, IfOk, OnOk, OnErr};
 ghost use Rattle.std.specs.Io.KnownBytes.{Appends, ReadConsumes};
-ghost use Rattle.mf_io.specs.Faults.{counted};
+ghost use Rattle.mf_io.specs.Faults.{next_count};
 
 use crate::{Failed, Sink, Source};
 use std::io;
@@ -38,7 +38,7 @@ impl<R: Read> Source for StdSource<R> {
         ensures reads { ReadConsumes (R.remaining self.old.reader) (R.remaining self.new.reader) result room.new }
 
         ensures no_fault { OnOk result (self.new.faults ≡ self.old.faults) }
-        ensures fault { OnErr result (self.new.faults ≡ counted self.old.faults) }
+        ensures fault { OnErr result (self.new.faults ≡ next_count self.old.faults) }
     {
         match self.reader.read(room) {
             Ok(count) => Ok(count),
@@ -84,7 +84,7 @@ impl<W: Write> Sink for StdSink<W> {
             Appends (W.contents self.old.writer) (W.contents self.new.writer) (take count piece.now)) }
 
         ensures no_fault { OnOk result (self.new.faults ≡ self.old.faults) }
-        ensures fault { OnErr result (self.new.faults ≡ counted self.old.faults) }
+        ensures fault { OnErr result (self.new.faults ≡ next_count self.old.faults) }
     {
         match write_through(&mut self.writer, piece) {
             Ok(count) if count > 0 || piece.is_empty() => Ok(count),

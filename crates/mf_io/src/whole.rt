@@ -10,15 +10,20 @@ use std::alloc::{AllocError, Global};
 /// Want of memory, under the name that refusals give it.
 pub type Memory = AllocError;
 
+/// Why a source wasn't read to its end.
 #[derive(Clone, Copy, Debug, PartialEq, Eq)]
 pub enum ReadRefusal {
+    /// A call of the source failed.
     Failed,
+    /// More bytes came than the limit.
     TooLong,
     Memory,
 }
 
+/// Why a piece wasn't written whole.
 #[derive(Clone, Copy, Debug, PartialEq, Eq)]
 pub enum WriteRefusal {
+    /// A call of the sink failed.
     Failed,
 }
 
@@ -42,6 +47,7 @@ impl From<AllocError> for ReadRefusal {
     }
 }
 
+// How many bytes one call of a source may give.
 const ROOM: usize = 4096;
 
 /// Reads to the end, at most `limit` bytes. A source without end is read at most 4,096 bytes further.
@@ -77,7 +83,7 @@ pub fn read_all<S: Source>(
     }
 }
 
-/// Writes the piece, in as many calls as the sink wants. An empty piece is no call.
+/// Writes the piece, in as many calls as the sink needs. For an empty piece there is no call.
 pub fn write_all<K: Sink>(sink: &mut K, piece: &[u8]) -> Result<(), WriteRefusal>
     ensures takes { OnOk result (Takes (K.taken sink.old) (K.taken sink.new) piece.now) }
     ensures part { OnErr result (TakesPart (K.taken sink.old) (K.taken sink.new) piece.now) }
