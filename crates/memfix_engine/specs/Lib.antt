@@ -1,3 +1,6 @@
+pub mod Edit
 pub mod Form
 pub mod Reading
+pub mod Reads
+pub mod Repair
 pub mod Scan

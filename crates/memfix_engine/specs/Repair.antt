@@ -1,0 +1,27 @@
+-- The repair of a program of the first form: one free for each variable, all before the return.
+use Rattle.std.specs.Prelude.{◌≡◌, ℕ, ◌-◌, List, map, length, Option, None}
+use Rattle.std.specs.List.{range_with_len}
+use Rattle.c_tree.specs.declared.choice.Put.{Put}
+use Rattle.c_tree.specs.declared.choice.Choice.{Choice}
+use Rattle.c_tree.specs.declared.program.Program.{Program}
+use Rattle.c_tree.specs.Fill.{fill}
+use Rattle.c_tree.specs.Alike.{IsAlike}
+use Rattle.memfix_engine.specs.Reads.{Reads, IsBuilt}
+use Rattle.memfix_engine.specs.Edit.{edited}
+
+abbrev pub put_of : ℕ → ℕ → Put
+put_of gap x = record { gap = gap; var = x; field = None }
+
+-- the variables but the result's nameless slot, each freed in the gap before the return
+abbrev pub choice_of : Program → Choice
+choice_of p = record { puts = map (put_of (p.gaps - 2)) (range_with_len 0 (length p.vars - 1)) }
+
+-- w is the repaired text of b: b reads as p, w is b with the choice's frees, and w reads as q, which
+-- is p filled by that choice
+pub record Repairs (b w : List ℕ) : Type 0 where
+  pub program : Program
+  pub filled : Program
+  pub built : IsBuilt b program
+  pub edits : w ≡ edited b program (choice_of program)
+  pub reads : Reads w filled
+  pub alike : IsAlike filled (fill program (choice_of program))
