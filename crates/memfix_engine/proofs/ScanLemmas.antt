@@ -158,7 +158,7 @@ int_of_above ds i d v h e above =
 
 -- derivations
 
-at_place : {a b l : ℕ} {bs r : List ℕ} {ts : List Token} → a ≡ b → Scan a bs ts l r → Scan b bs ts l r
+pub at_place : {a b l : ℕ} {bs r : List ℕ} {ts : List Token} → a ≡ b → Scan a bs ts l r → Scan b bs ts l r
 at_place {a} {b} {l} {bs} {r} {ts} e s = subst (λ a. Scan a bs ts l r) e s
 
 -- one behind the other
@@ -198,9 +198,10 @@ placed {a} {m} (token {bytes = bytes} {ts = ts} {kind = kind} k s) =
       joined = sym (front-append-drop bytes) ∙ ap (λ xs. front bytes ++ xs) p.joined ∙ sym (append_assoc (front bytes) p.text _);
       ends = omega (arith, p.ends, length-append (front bytes) p.text);
       moves = λ q n.
-        let stops = λ (b : begins is_word bytes ≡ true). begins_other p.text _ q (subst (λ xs. begins is_word xs ≡ false) p.joined (front_stops bytes b)) n in
-        subst (λ xs. Scan a xs (token_of kind a (length (front bytes)) ∷ ts) m q) (sym (append_assoc (front bytes) p.text q))
-          (spelled_token (front bytes) (p.text ++ q) (front_again bytes (p.text ++ q) kind k stops) k (p.moves q n)) }
+          let stops = λ (b : begins is_word bytes ≡ true). begins_other p.text _ q (subst (λ xs. begins is_word xs ≡ false) p.joined (front_stops bytes b)) n in
+          subst (λ xs. Scan a xs (token_of kind a (length (front bytes)) ∷ ts) m q) (sym (append_assoc (front bytes) p.text q))
+          (spelled_token (front bytes) (p.text ++ q) (front_again bytes (p.text ++ q) kind k stops) k (p.moves q n));
+    }
 
 -- the derivation down to a token, and on from it
 pub record Splits (a : ℕ) (bs : List ℕ) (ts : List Token) (t : Token) (us : List Token) (l : ℕ) (r : List ℕ) : Type 0 where
@@ -331,8 +332,8 @@ frees_scan (x ∷ xs) r a h =
     let more = frees_scan xs r (a + length (free_text x)) others in
     let e : (a + length (free_text x)) + length (flat_map free_text xs) ≡ a + length (free_text x ++ flat_map free_text xs) = omega (arith, length-append (free_text x) (flat_map free_text xs)) in
     subst (λ bs. Scan a bs (free_tokens a (x ∷ xs)) (a + length (free_text x ++ flat_map free_text xs)) r) (sym (append_assoc (free_text x) (flat_map free_text xs) r))
-      (subst (λ last. Scan a (free_text x ++ (flat_map free_text xs ++ r)) (free_tokens a (x ∷ xs)) last r) e
-        (Scan-append (free_scans x (flat_map free_text xs ++ r) a first) more))
+    (subst (λ last. Scan a (free_text x ++ (flat_map free_text xs ++ r)) (free_tokens a (x ∷ xs)) last r) e
+    (Scan-append (free_scans x (flat_map free_text xs ++ r) a first) more))
 
 frees_begin : (xs : List (List ℕ)) (mid : List ℕ) → begins is_word mid ≡ false → begins is_word (flat_map free_text xs ++ mid) ≡ false
 frees_begin [] mid h = h

@@ -170,17 +170,21 @@ fn kind_of(alloc: Global, word: &[u8]) -> Result<Option<Kind>, AllocError>
     }
 }
 
-/// The token at the front of bytes that begin at an offset with no blank.
-fn token_at(alloc: Global, at: usize, bytes: &[u8]) -> Result<Option<Token>, AllocError>
-    requires { at + length bytes.now < 2 ^ 64 }
-    ensures { IfOk result (λ token. token ≡ token_at at bytes.now) }
+/// The token at an offset at which no blank stands.
+fn token_at(alloc: Global, bytes: &[u8], at: usize) -> Result<Option<Token>, AllocError>
+    requires { at ≤ length bytes.now }
+    ensures { IfOk result (λ token. token ≡ token_at at (drop at bytes.now)) }
 {
-    let word = front(bytes);
+    let word = front(&bytes[at..]);
     let Some(kind) = kind_of(alloc, word)? else {
         return Ok(None);
     };
     let end = at + word.len();
-    Ok(Some(Token { kind, start: at, end }))
+    Ok(Some(Token {
+        kind,
+        start: at,
+        end,
+    }))
 }
 
 /// The offset of the first byte from `at` on that is no blank.
@@ -200,7 +204,7 @@ pub(crate) fn scan(alloc: Global, bytes: &[u8]) -> Result<Option<Seq<Token>>, Al
     let mut tokens = Seq::new(alloc);
     let mut at = after_blanks(bytes, 0);
     while at < bytes.len() {
-        let Some(token) = token_at(alloc, at, &bytes[at..])? else {
+        let Some(token) = token_at(alloc, bytes, at)? else {
             return Ok(None);
         };
         at = after_blanks(bytes, token.end);
