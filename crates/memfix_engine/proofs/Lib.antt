@@ -1,3 +1,4 @@
 pub mod FormLemmas
+pub mod ScanExamples
 pub mod ScanLemmas
 pub mod ScanLoop

@@ -212,3 +212,52 @@ pub(crate) fn scan(alloc: Global, bytes: &[u8]) -> Result<Option<Seq<Token>>, Al
     }
     Ok(Some(tokens))
 }
+
+#[cfg(test)]
+mod tests {
+    use super::*;
+    use std::test::Fail;
+
+    #[test]
+    fn counts_tokens(rt: HostRuntime) -> Result<(), Fail> {
+        let table: [(&str, Option<usize>); 14] = [
+            ("", Some(0)),
+            ("intx", Some(1)),
+            ("int x", Some(2)),
+            ("0", Some(1)),
+            ("07", None),
+            ("7x", None),
+            ("2147483647", Some(1)),
+            ("2147483648", None),
+            ("99999999999999999999", None),
+            ("\"%d\\n\"", Some(1)),
+            ("\"%d\"", None),
+            ("*p=7;free(p);", Some(10)),
+            ("\t\n\u{b}\u{c}\r ;\t\n\u{b}\u{c}\r ", Some(1)),
+            ("a/* */", None),
+        ];
+        for (text, count) in table.iter() {
+            let found = scan(rt.alloc(), text.as_bytes())?.map(|tokens| tokens.len());
+            assert_eq!(rt; found, *count, "{text}");
+        }
+        Ok(())
+    }
+
+    #[test]
+    fn tells_names_from_key_words(rt: HostRuntime) -> Result<(), Fail> {
+        for (text, key) in [
+            ("intx", false),
+            ("int", true),
+            ("_free", false),
+            ("free", true),
+        ] {
+            let tokens = scan(rt.alloc(), text.as_bytes())?.ok_or("none")?;
+            let is_key = tokens
+                .as_slice()
+                .iter()
+                .any(|t| matches!(t.kind, Kind::Key(_)));
+            assert_eq!(rt; is_key, key, "{text}");
+        }
+        Ok(())
+    }
+}
