@@ -1,17 +1,17 @@
 -- Lemmas on the tokens of the first form: the token at the front, one Scan behind another, and the
 -- insertion of `free` statements.
-use Rattle.std.proofs.Common.{◌≡◌, ℕ, suc, zero, ◌+◌, ◌-◌, ◌*◌, ◌^◌, ◌<◌, ◌≤◌, ◌⊎◌, Bool, true, false, cond, ltb, ◌==◌, List, [], ◌∷◌, ◌++◌, length, take, drop, map, replicate, fold, flat_map, take_while, All, Option, Some, None, option_map, refl, sym, ap, subst, ◌∙◌, inl, inr, arith, append_assoc, length-append, bytes_eq, get_or, nat_lt, add-one, ℤ}
+use Rattle.std.proofs.Common.{◌≡◌, ℕ, suc, zero, ◌+◌, ◌-◌, ◌*◌, ◌^◌, ◌<◌, ◌≤◌, ◌⊎◌, Bool, true, false, ◌==◌, List, [], ◌∷◌, ◌++◌, length, take, drop, map, replicate, fold, flat_map, take_while, All, Option, Some, None, option_map, refl, sym, ap, subst, ◌∙◌, inl, inr, arith, append_assoc, length-append, bytes_eq, get_or, nat_lt, add-one, ℤ}
 use Rattle.std.specs.List.{list_all, prefix_len}
 use Rattle.std.proofs.lemmas.List.{take-append-drop, take_at, drop_at, drop-drop, append-nil}
-use Rattle.std.proofs.lemmas.List.Sums.{take_while-cons, fold-append, fold_more, prefix_len-le-length}
-use Rattle.std.proofs.lemmas.Bool.{le-ltb, cond_both, cond-true, cond-false, or_left, cases_Bool, and_parts, or_cases, or_parts, eqb-true}
+use Rattle.std.proofs.lemmas.List.Sums.{take_while-cons, fold-append, fold_more}
+use Rattle.std.proofs.lemmas.Bool.{le-ltb, cond_both, cond-true, cond-false, or_left, cases_Bool, and_parts, or_parts}
 use Rattle.std.proofs.lemmas.Bool.Decides.{nat_tests}
 use Rattle.std.proofs.lemmas.Slice.Eq.{bytes_eq-Decides}
 use Rattle.c_lexer.specs.declared.token.Token.{Token}
 use Rattle.c_lexer.specs.declared.token.Kind.{Kind}
 use Rattle.c_lexer.specs.declared.token.Kind.TheVariants.{Name, Key, Number, Text, Punct}
-use Rattle.memfix_engine.specs.declared.kinds.TheConstants.{KEY_FREE, PUNCT_OPEN, PUNCT_CLOSE, PUNCT_SEMICOLON}
-use Rattle.memfix_engine.specs.Scan.{is_blank, is_digit, is_letter, is_word, front, key_of, key_or_name, digits_value, text_of, text_spelling, text_bytes, number_of, int_of, punct_of, kind_of, token_of, token_at, Scan, done, blank, token, Scans, begins_with_letter, IsName, free_text, free_tokens_of, free_tokens, shifted}
+use Rattle.memfix_engine.specs.declared.kinds.TheConstants.{PUNCT_OPEN, PUNCT_CLOSE, PUNCT_SEMICOLON}
+use Rattle.memfix_engine.specs.Scan.{is_blank, is_digit, is_letter, is_word, front, key_of, key_or_name, digits_value, text_of, text_spelling, number_of, int_of, punct_of, kind_of, token_of, Scan, done, blank, token, Scans, begins_with_letter, IsName, free_text, free_tokens_of, free_tokens, shifted}
 
 -- blanks
 
@@ -226,7 +226,8 @@ split_token {a} {l} {bytes} {r} {vs} {us} {t} {kind} [] k s i e =
       before = subst (λ n. Scan a bytes [] n bytes) place done;
       known = k ∙ ap (λ x. Some x.kind) same;
       ends = omega arith;
-      after = at_place end_is (subst (λ xs. Scan (a + length (front bytes)) (drop (length (front bytes)) bytes) xs l r) others s) }
+      after = at_place end_is (subst (λ xs. Scan (a + length (front bytes)) (drop (length (front bytes)) bytes) xs l r) others s);
+    }
 split_token {a} {l} {bytes} {r} {vs} {us} {t} {kind} (t' ∷ ts) k s i e =
     let same : token_of kind a (length (front bytes)) ≡ t' = cc in
     let others : vs ≡ ts ++ t ∷ us = cc in

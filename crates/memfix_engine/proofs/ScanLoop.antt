@@ -1,13 +1,12 @@
 -- The loop of `scan`: the tokens so far are those of the bytes down to an offset at which no blank stands.
-use Rattle.std.proofs.Common.{◌≡◌, ℕ, ◌+◌, ◌-◌, ◌<◌, ◌≤◌, Bool, true, false, List, [], ◌∷◌, ◌++◌, length, take, drop, Option, Some, None, option_map, refl, sym, ap, subst, ◌∙◌, arith, append_assoc, length-append, length-drop, add-zero, one-add, suc}
+use Rattle.std.proofs.Common.{◌≡◌, ℕ, ◌+◌, ◌<◌, ◌≤◌, Bool, true, false, List, [], ◌∷◌, ◌++◌, length, drop, Option, Some, None, option_map, refl, sym, ap, subst, ◌∙◌, arith, length-drop, add-zero, one-add, suc}
 use Rattle.std.specs.List.{prefix_len}
 use Rattle.std.proofs.lemmas.List.{append-nil, drop-drop, drop_all}
-use Rattle.std.proofs.lemmas.List.Sums.{prefix_len-le-length}
 use Rattle.std.proofs.lemmas.Bool.{cond-true, cond-false}
 use Rattle.c_lexer.specs.declared.token.Token.{Token}
 use Rattle.c_lexer.specs.declared.token.Kind.{Kind}
 use Rattle.memfix_engine.specs.Scan.{is_blank, front, kind_of, token_of, token_at, Scan, done, blank, token, Scans}
-use Rattle.memfix_engine.proofs.ScanLemmas.{begins, at_place, Scan-append, Scan_ends, front_some, length-front, kind_of-blank, extends}
+use Rattle.memfix_engine.proofs.ScanLemmas.{begins, Scan-append, front_some, length-front, extends}
 
 -- the blanks in front
 Scan_blanks : (a : ℕ) (bs : List ℕ) → Scan a bs [] (a + prefix_len is_blank bs) (drop (prefix_len is_blank bs) bs)

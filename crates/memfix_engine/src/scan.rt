@@ -199,7 +199,8 @@ fn after_blanks(bytes: &[u8], at: usize) -> usize
 /// The tokens of a text with nothing but blanks between them.
 pub(crate) fn scan(alloc: Global, bytes: &[u8]) -> Result<Option<Seq<Token>>, AllocError>
     ensures found { IfOk result (λ tokens. IfSome tokens (Scans bytes.now)) }
-    ensures none { IfOk result (λ tokens. IfNone tokens ((ts : List Token) → Scans bytes.now ts → ⊥)) }
+    ensures none { IfOk result
+        (λ tokens. IfNone tokens ((ts : List Token) → Scans bytes.now ts → ⊥)) }
 {
     let mut tokens = Seq::new(alloc);
     let mut at = after_blanks(bytes, 0);
