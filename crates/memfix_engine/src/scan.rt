@@ -1,5 +1,5 @@
 //! The tokens of the first form.
-ghost use Rattle.std.specs.Prelude.{◌≡◌, ◌+◌, ◌^◌, ◌<◌, ◌≤◌, IfOk, IfSome, IfNone, List, length, drop};
+ghost use Rattle.std.specs.Prelude.{◌≡◌, ◌+◌, ◌≤◌, IfOk, IfSome, IfNone, List, length, drop};
 ghost use Rattle.std.specs.List.{list_all, prefix_len};
 ghost use Rattle.c_lexer.specs.declared.token.Token.{Token};
 ghost use Rattle.memfix_engine.specs.Scan.{is_blank, is_digit, is_letter, is_word, front, key_of, key_or_name, int_of, has_leading_zero, number_of, text_of, punct_of, kind_of, token_at, Scans};
