@@ -1,2 +1,4 @@
 pub mod FormLemmas
+pub mod ScanExamples
 pub mod ScanLemmas
+pub mod ScanLoop

@@ -1,17 +1,17 @@
 -- Lemmas on the tokens of the first form: the token at the front, one Scan behind another, and the
 -- insertion of `free` statements.
-use Rattle.std.proofs.Common.{◌≡◌, ℕ, suc, zero, ◌+◌, ◌-◌, ◌*◌, ◌^◌, ◌<◌, ◌≤◌, ◌⊎◌, Bool, true, false, cond, ltb, ◌==◌, List, [], ◌∷◌, ◌++◌, length, take, drop, map, fold, flat_map, take_while, All, Option, Some, None, option_map, refl, sym, ap, subst, ◌∙◌, inl, inr, arith, append_assoc, length-append, bytes_eq, get_or, nat_lt, add-one}
+use Rattle.std.proofs.Common.{◌≡◌, ℕ, suc, zero, ◌+◌, ◌-◌, ◌*◌, ◌^◌, ◌<◌, ◌≤◌, ◌⊎◌, Bool, true, false, ◌==◌, List, [], ◌∷◌, ◌++◌, length, take, drop, map, replicate, fold, flat_map, take_while, All, Option, Some, None, option_map, refl, sym, ap, subst, ◌∙◌, inl, inr, arith, append_assoc, length-append, bytes_eq, get_or, nat_lt, add-one, ℤ}
 use Rattle.std.specs.List.{list_all, prefix_len}
-use Rattle.std.proofs.lemmas.List.{take-append-drop, take_at, drop_at, append-nil, drop_more}
-use Rattle.std.proofs.lemmas.List.Sums.{take_while-cons, fold-append, fold_more, prefix_len-le-length}
-use Rattle.std.proofs.lemmas.Bool.{le-ltb, cond_both, cond-true, cond-false, or_left, cases_Bool, and_parts, or_cases, or_parts, eqb-true}
+use Rattle.std.proofs.lemmas.List.{take-append-drop, take_at, drop_at, drop-drop, append-nil}
+use Rattle.std.proofs.lemmas.List.Sums.{take_while-cons, fold-append, fold_more}
+use Rattle.std.proofs.lemmas.Bool.{le-ltb, cond_both, cond-true, cond-false, or_left, cases_Bool, and_parts, or_parts}
 use Rattle.std.proofs.lemmas.Bool.Decides.{nat_tests}
 use Rattle.std.proofs.lemmas.Slice.Eq.{bytes_eq-Decides}
 use Rattle.c_lexer.specs.declared.token.Token.{Token}
 use Rattle.c_lexer.specs.declared.token.Kind.{Kind}
 use Rattle.c_lexer.specs.declared.token.Kind.TheVariants.{Name, Key, Number, Text, Punct}
-use Rattle.memfix_engine.specs.declared.kinds.TheConstants.{KEY_FREE, PUNCT_OPEN, PUNCT_CLOSE, PUNCT_SEMICOLON}
-use Rattle.memfix_engine.specs.Scan.{is_blank, is_digit, is_letter, is_word, front, key_of, key_or_name, digits_value, text_of, text_spelling, text_bytes, int_of, punct_of, kind_of, token_of, token_at, Scan, done, blank, token, Scans, begins_with_letter, IsName, free_text, free_tokens_of, free_tokens, shifted}
+use Rattle.memfix_engine.specs.declared.kinds.TheConstants.{PUNCT_OPEN, PUNCT_CLOSE, PUNCT_SEMICOLON}
+use Rattle.memfix_engine.specs.Scan.{is_blank, is_digit, is_letter, is_word, front, key_of, key_or_name, digits_value, text_of, text_spelling, number_of, int_of, punct_of, kind_of, token_of, Scan, done, blank, token, Scans, begins_with_letter, IsName, free_text, free_tokens_of, free_tokens, shifted}
 
 -- blanks
 
@@ -158,7 +158,7 @@ int_of_above ds i d v h e above =
 
 -- derivations
 
-at_place : {a b l : ℕ} {bs r : List ℕ} {ts : List Token} → a ≡ b → Scan a bs ts l r → Scan b bs ts l r
+pub at_place : {a b l : ℕ} {bs r : List ℕ} {ts : List Token} → a ≡ b → Scan a bs ts l r → Scan b bs ts l r
 at_place {a} {b} {l} {bs} {r} {ts} e s = subst (λ a. Scan a bs ts l r) e s
 
 -- one behind the other
@@ -198,15 +198,18 @@ placed {a} {m} (token {bytes = bytes} {ts = ts} {kind = kind} k s) =
       joined = sym (front-append-drop bytes) ∙ ap (λ xs. front bytes ++ xs) p.joined ∙ sym (append_assoc (front bytes) p.text _);
       ends = omega (arith, p.ends, length-append (front bytes) p.text);
       moves = λ q n.
-        let stops = λ (b : begins is_word bytes ≡ true). begins_other p.text _ q (subst (λ xs. begins is_word xs ≡ false) p.joined (front_stops bytes b)) n in
-        subst (λ xs. Scan a xs (token_of kind a (length (front bytes)) ∷ ts) m q) (sym (append_assoc (front bytes) p.text q))
-          (spelled_token (front bytes) (p.text ++ q) (front_again bytes (p.text ++ q) kind k stops) k (p.moves q n)) }
+          let stops = λ (b : begins is_word bytes ≡ true). begins_other p.text _ q (subst (λ xs. begins is_word xs ≡ false) p.joined (front_stops bytes b)) n in
+          subst (λ xs. Scan a xs (token_of kind a (length (front bytes)) ∷ ts) m q) (sym (append_assoc (front bytes) p.text q))
+          (spelled_token (front bytes) (p.text ++ q) (front_again bytes (p.text ++ q) kind k stops) k (p.moves q n));
+    }
 
--- the derivation down to a token, and on from it
+-- the derivation down to a token, the token, and on behind it
 pub record Splits (a : ℕ) (bs : List ℕ) (ts : List Token) (t : Token) (us : List Token) (l : ℕ) (r : List ℕ) : Type 0 where
   pub mid : List ℕ
   pub before : Scan a bs ts t.start mid
-  pub behind : Scan t.start mid (t ∷ us) l r
+  pub known : kind_of (front mid) ≡ Some t.kind
+  pub ends : t.end ≡ t.start + length (front mid)
+  pub after : Scan t.end (drop (length (front mid)) mid) us l r
 
 no_nil : (ts us : List Token) (t : Token) → [] ≡ ts ++ t ∷ us → ⊥
 no_nil [] us t e = cc
@@ -215,18 +218,33 @@ no_nil (t' ∷ ts) us t e = cc
 split_token : {a l : ℕ} {bytes r : List ℕ} {vs us : List Token} {t : Token} {kind : Kind} (ts : List Token) → kind_of (front bytes) ≡ Some kind → Scan (a + length (front bytes)) (drop (length (front bytes)) bytes) vs l r → ((ts : List Token) → vs ≡ ts ++ t ∷ us → Splits (a + length (front bytes)) (drop (length (front bytes)) bytes) ts t us l r) → token_of kind a (length (front bytes)) ∷ vs ≡ ts ++ t ∷ us → Splits a bytes ts t us l r
 split_token {a} {l} {bytes} {r} {vs} {us} {t} {kind} [] k s i e =
     let same : token_of kind a (length (front bytes)) ≡ t = cc in
+    let others : vs ≡ us = cc in
     let place : a ≡ t.start = ap (λ x. x.start) same in
-    record { mid = bytes; before = subst (λ n. Scan a bytes [] n bytes) place done; behind = at_place place (subst (λ xs. Scan a bytes xs l r) e (token k s)) }
+    let end_is : a + length (front bytes) ≡ t.end = ap (λ x. x.end) same in
+    record {
+      mid = bytes;
+      before = subst (λ n. Scan a bytes [] n bytes) place done;
+      known = k ∙ ap (λ x. Some x.kind) same;
+      ends = omega arith;
+      after = at_place end_is (subst (λ xs. Scan (a + length (front bytes)) (drop (length (front bytes)) bytes) xs l r) others s);
+    }
 split_token {a} {l} {bytes} {r} {vs} {us} {t} {kind} (t' ∷ ts) k s i e =
     let same : token_of kind a (length (front bytes)) ≡ t' = cc in
     let others : vs ≡ ts ++ t ∷ us = cc in
     let p = i ts others in
-    record { mid = p.mid; before = subst (λ x. Scan a bytes (x ∷ ts) t.start p.mid) same (token k p.before); behind = p.behind }
+    record { mid = p.mid; before = subst (λ x. Scan a bytes (x ∷ ts) t.start p.mid) same (token k p.before); known = p.known; ends = p.ends; after = p.after }
 
 pub splits : {a l : ℕ} {bs r : List ℕ} {ws us : List Token} {t : Token} (ts : List Token) → Scan a bs ws l r → ws ≡ ts ++ t ∷ us → Splits a bs ts t us l r
 splits {us = us} {t = t} ts done e = absurd (no_nil ts us t e)
-splits ts (blank h s) e = let p = splits ts s e in record { mid = p.mid; before = blank h p.before; behind = p.behind }
+splits ts (blank h s) e = let p = splits ts s e in record { mid = p.mid; before = blank h p.before; known = p.known; ends = p.ends; after = p.after }
 splits ts (token k s) e = split_token ts k s (λ ts' e'. splits ts' s e') e
+
+-- the token and those behind it
+behind : {a l : ℕ} {bs r : List ℕ} {ts us : List Token} {t : Token} → (p : Splits a bs ts t us l r) → Scan t.start p.mid (t ∷ us) l r
+behind {l = l} {r = r} {us = us} {t = t} p =
+    let n = length (front p.mid) in
+    let is : token_of t.kind t.start n ≡ t = ap (λ e. record { kind = t.kind; start = t.start; end = e }) (sym p.ends) in
+    subst (λ x. Scan t.start p.mid (x ∷ us) l r) is (token p.known (at_place p.ends p.after))
 
 -- where d bytes more stand before it
 pub Scan-shifted : {a l : ℕ} {bs r : List ℕ} {ts : List Token} (d : ℕ) → Scan a bs ts l r → Scan (a + d) bs (map (shifted d) ts) (l + d) r
@@ -243,6 +261,11 @@ Scan-shifted {a} {l} {r = r} d (token {bytes = bytes} {ts = ts} {kind = kind} k 
 
 pub Scan_ends : {a l : ℕ} {bs r : List ℕ} {ts : List Token} → Scan a bs ts l r → l + length r ≡ a + length bs
 Scan_ends {r = r} s = let p = placed s in omega (arith, p.ends, ap (λ xs. length xs) p.joined, length-append p.text r)
+
+scans_at_end : {bs : List ℕ} {ts : List Token} (l : ℕ) → Scan 0 bs ts l [] → Scans bs ts
+scans_at_end {bs} {ts} l s =
+    let e : l ≡ length bs = omega (arith, Scan_ends s) in
+    subst (λ l. Scan 0 bs ts l []) e s
 
 -- uniqueness
 
@@ -331,31 +354,62 @@ frees_scan (x ∷ xs) r a h =
     let more = frees_scan xs r (a + length (free_text x)) others in
     let e : (a + length (free_text x)) + length (flat_map free_text xs) ≡ a + length (free_text x ++ flat_map free_text xs) = omega (arith, length-append (free_text x) (flat_map free_text xs)) in
     subst (λ bs. Scan a bs (free_tokens a (x ∷ xs)) (a + length (free_text x ++ flat_map free_text xs)) r) (sym (append_assoc (free_text x) (flat_map free_text xs) r))
-      (subst (λ last. Scan a (free_text x ++ (flat_map free_text xs ++ r)) (free_tokens a (x ∷ xs)) last r) e
-        (Scan-append (free_scans x (flat_map free_text xs ++ r) a first) more))
+    (subst (λ last. Scan a (free_text x ++ (flat_map free_text xs ++ r)) (free_tokens a (x ∷ xs)) last r) e
+    (Scan-append (free_scans x (flat_map free_text xs ++ r) a first) more))
 
-frees_begin : (xs : List (List ℕ)) (mid : List ℕ) → begins is_word mid ≡ false → begins is_word (flat_map free_text xs ++ mid) ≡ false
-frees_begin [] mid h = h
-frees_begin (x ∷ xs) mid h = refl
+frees_begin : (xs : List (List ℕ)) (r : List ℕ) → begins is_word r ≡ false → begins is_word (flat_map free_text xs ++ r) ≡ false
+frees_begin [] r h = h
+frees_begin (x ∷ xs) r h = refl
 
--- `free` statements before a token add their tokens, and shift it and those behind it
-pub Scans_inserted : (b : List ℕ) (ts us : List Token) (t : Token) (xs : List (List ℕ)) → Scans b (ts ++ t ∷ us) → All IsName xs → Scans (take t.start b ++ flat_map free_text xs ++ drop t.start b) (ts ++ free_tokens t.start xs ++ map (shifted (length (flat_map free_text xs))) (t ∷ us))
-Scans_inserted b ts us t xs s h =
+-- edits
+
+-- a text before a token adds its tokens, and shifts that token and those behind it
+pub Scans_with_text : (b : List ℕ) (ts us : List Token) (t : Token) (text : List ℕ) (new : ℕ → List Token) → Scans b (ts ++ t ∷ us) → ((r : List ℕ) → begins is_word r ≡ false → begins is_word (text ++ r) ≡ false) → ((a : ℕ) (r : List ℕ) → Scan a (text ++ r) (new a) (a + length text) r) → Scans (take t.start b ++ text ++ drop t.start b) (ts ++ new t.start ++ map (shifted (length text)) (t ∷ us))
+Scans_with_text b ts us t text new s starts scans =
     let p = splits ts s refl in
     let q = placed p.before in
-    let frees = flat_map free_text xs in
-    let d = length frees in
+    let d = length text in
     let place : length q.text ≡ t.start = omega (arith, q.ends) in
-    let taken_is : take t.start b ≡ q.text = ap (λ xs. take t.start xs) q.joined ∙ take_at q.text p.mid t.start place in
-    let dropped_is : drop t.start b ≡ p.mid = ap (λ xs. drop t.start xs) q.joined ∙ drop_at q.text p.mid t.start place in
-    let text_is : q.text ++ (frees ++ p.mid) ≡ take t.start b ++ frees ++ drop t.start b = sym (append_assoc q.text frees p.mid) ∙ ap (λ xs. xs ++ frees ++ p.mid) (sym taken_is) ∙ ap (λ xs. take t.start b ++ frees ++ xs) (sym dropped_is) in
-    let before : Scan 0 (q.text ++ (frees ++ p.mid)) ts t.start (frees ++ p.mid) = q.moves (frees ++ p.mid) (frees_begin xs p.mid) in
-    let between : Scan t.start (frees ++ p.mid) (free_tokens t.start xs) (t.start + d) p.mid = frees_scan xs p.mid t.start h in
-    let behind : Scan (t.start + d) p.mid (map (shifted d) (t ∷ us)) (length b + d) [] = Scan-shifted d p.behind in
-    let whole : Scan 0 (q.text ++ (frees ++ p.mid)) (ts ++ free_tokens t.start xs ++ map (shifted d) (t ∷ us)) (length b + d) [] = Scan-append (Scan-append before between) behind in
-    let placed_whole : Scan 0 (take t.start b ++ frees ++ drop t.start b) (ts ++ free_tokens t.start xs ++ map (shifted d) (t ∷ us)) (length b + d) [] = subst (λ bs. Scan 0 bs (ts ++ free_tokens t.start xs ++ map (shifted d) (t ∷ us)) (length b + d) []) text_is whole in
-    let ends : length b + d ≡ length (take t.start b ++ frees ++ drop t.start b) = omega (arith, Scan_ends placed_whole) in
-    subst (λ last. Scan 0 (take t.start b ++ frees ++ drop t.start b) (ts ++ free_tokens t.start xs ++ map (shifted d) (t ∷ us)) last []) ends placed_whole
+    let front_is : q.text ≡ take t.start b = sym (ap (λ xs. take t.start xs) q.joined ∙ take_at q.text p.mid t.start place) in
+    let back_is : p.mid ≡ drop t.start b = sym (ap (λ xs. drop t.start xs) q.joined ∙ drop_at q.text p.mid t.start place) in
+    let before : Scan 0 (q.text ++ (text ++ p.mid)) ts t.start (text ++ p.mid) = q.moves (text ++ p.mid) (starts p.mid) in
+    let between : Scan t.start (text ++ p.mid) (new t.start) (t.start + d) p.mid = scans t.start p.mid in
+    let after : Scan (t.start + d) p.mid (map (shifted d) (t ∷ us)) (length b + d) [] = Scan-shifted d (behind p) in
+    let whole = Scan-append (Scan-append before between) after in
+    let joined : q.text ++ (text ++ p.mid) ≡ take t.start b ++ text ++ drop t.start b = sym (append_assoc q.text text p.mid) ∙ ap (λ xs. xs ++ text ++ p.mid) front_is ∙ ap (λ xs. take t.start b ++ text ++ xs) back_is in
+    scans_at_end (length b + d) (subst (λ bs. Scan 0 bs (ts ++ new t.start ++ map (shifted d) (t ∷ us)) (length b + d) []) joined whole)
+
+-- `free` statements before a token add their tokens, and shift that token and those behind it
+pub Scans_inserted : (b : List ℕ) (ts us : List Token) (t : Token) (xs : List (List ℕ)) → Scans b (ts ++ t ∷ us) → All IsName xs → Scans (take t.start b ++ flat_map free_text xs ++ drop t.start b) (ts ++ free_tokens t.start xs ++ map (shifted (length (flat_map free_text xs))) (t ∷ us))
+Scans_inserted b ts us t xs s h = Scans_with_text b ts us t (flat_map free_text xs) (λ a. free_tokens a xs) s (frees_begin xs) (λ a r. frees_scan xs r a h)
+
+blanks_begin : (n : ℕ) (r : List ℕ) → 0 < n → begins is_word (replicate n 32 ++ r) ≡ false
+blanks_begin zero r h = absurd (omega arith)
+blanks_begin (suc n) r h = refl
+
+blanks_scan : (n : ℕ) (a : ℕ) (r : List ℕ) → Scan a (replicate n 32 ++ r) [] (a + n) r
+blanks_scan zero a r = let e : a ≡ a + 0 = omega arith in subst (λ last. Scan a r [] last r) e done
+blanks_scan (suc n) a r =
+    let e : (a + 1) + n ≡ a + suc n = omega arith in
+    blank refl (subst (λ last. Scan (a + 1) (replicate n 32 ++ r) [] last r) e (blanks_scan n (a + 1) r))
+
+-- blanks in a token's place leave the other tokens
+pub Scans_blanked : (b : List ℕ) (ts us : List Token) (t : Token) → Scans b (ts ++ t ∷ us) → Scans (take t.start b ++ replicate (t.end - t.start) 32 ++ drop t.end b) (ts ++ us)
+Scans_blanked b ts us t s =
+    let p = splits ts s refl in
+    let q = placed p.before in
+    let n = length (front p.mid) in
+    let rest = drop n p.mid in
+    let size : n ≡ t.end - t.start = omega (arith, p.ends) in
+    let place : length q.text ≡ t.start = omega (arith, q.ends) in
+    let front_is : q.text ≡ take t.start b = sym (ap (λ xs. take t.start xs) q.joined ∙ take_at q.text p.mid t.start place) in
+    let mid_is : p.mid ≡ drop t.start b = sym (ap (λ xs. drop t.start xs) q.joined ∙ drop_at q.text p.mid t.start place) in
+    let back_is : rest ≡ drop t.end b = ap (λ xs. drop n xs) mid_is ∙ drop-drop n t.start b ∙ ap (λ i. drop i b) (sym p.ends) in
+    let before : Scan 0 (q.text ++ (replicate n 32 ++ rest)) ts t.start (replicate n 32 ++ rest) = q.moves (replicate n 32 ++ rest) (λ _. blanks_begin n rest (front_some p.mid t.kind p.known)) in
+    let after : Scan t.start (replicate n 32 ++ rest) us (length b) [] = Scan-append (blanks_scan n t.start rest) (at_place p.ends p.after) in
+    let whole : Scan 0 (q.text ++ (replicate n 32 ++ rest)) (ts ++ us) (length b) [] = Scan-append before after in
+    let joined : q.text ++ (replicate n 32 ++ rest) ≡ take t.start b ++ replicate (t.end - t.start) 32 ++ drop t.end b = sym (append_assoc q.text (replicate n 32) rest) ∙ ap (λ xs. xs ++ replicate n 32 ++ rest) front_is ∙ ap (λ n. take t.start b ++ replicate n 32 ++ rest) size ∙ ap (λ xs. take t.start b ++ replicate (t.end - t.start) 32 ++ xs) back_is in
+    scans_at_end (length b) (subst (λ bs. Scan 0 bs (ts ++ us) (length b) []) joined whole)
 
 -- places
 
@@ -387,6 +441,62 @@ Ascend_le a (t ∷ ts) l h = omega (arith, h.0, h.1, Ascend_le t.end ts l h.2)
 
 -- names
 
+-- a name that a kind holds is a name
 abbrev pub IsNamed : Kind → Type 0
 IsNamed (Name x) = IsName x
 IsNamed _ = Unit {0}
+
+abbrev pub AllNamed : List Token → Type 0
+AllNamed [] = Unit {0}
+AllNamed (t ∷ ts) = IsNamed t.kind × AllNamed ts
+
+-- what a spelling is whose kind is a name
+record Spells (w x : List ℕ) : Type 0 where
+  begins : begins_with_letter w ≡ true
+  is : w ≡ x
+  no_key : key_of w ≡ None
+
+no_name : (A : Type 0) (o : Option A) (f : A → Kind) (x : List ℕ) → ((a : A) → f a ≡ Name x → ⊥) → option_map f o ≡ Some (Name x) → ⊥
+no_name A None f x h e = cc
+no_name A (Some a) f x h e = h a (cc)
+
+spells : (w x : List ℕ) → kind_of w ≡ Some (Name x) → Spells w x
+spells [] x h = cc
+spells (c ∷ cs) x h = go (is_letter c) refl (is_digit c) refl (c == 34) refl (key_of (c ∷ cs)) refl
+  where
+    go : (l : Bool) → is_letter c ≡ l → (d : Bool) → is_digit c ≡ d → (q : Bool) → (c == 34) ≡ q → (k : Option ℕ) → key_of (c ∷ cs) ≡ k → Spells (c ∷ cs) x
+    go true l d e q f None k =
+        let named : kind_of (c ∷ cs) ≡ Some (Name (c ∷ cs)) = cond-true (is_letter c) _ _ l ∙ ap (λ k. Some (key_or_name (c ∷ cs) k)) k in
+        record { begins = l; is = cc; no_key = k }
+    go true l d e q f (Some n) k =
+        let key : kind_of (c ∷ cs) ≡ Some (Key n) = cond-true (is_letter c) _ _ l ∙ ap (λ k. Some (key_or_name (c ∷ cs) k)) k in
+        cc
+    go false l true e q f o k = absurd (no_name ℤ (number_of (c ∷ cs)) (λ n. Number n) x (λ n g. cc) (sym (cond-false (is_letter c) _ _ l ∙ cond-true (is_digit c) _ _ e) ∙ h))
+    go false l false e true f o k = absurd (no_name (List ℕ) (text_of (c ∷ cs)) (λ n. Text n) x (λ n g. cc) (sym (cond-false (is_letter c) _ _ l ∙ cond-false (is_digit c) _ _ e ∙ cond-true (c == 34) _ _ f) ∙ h))
+    go false l false e false f o k = absurd (no_name ℕ (punct_of c) (λ n. Punct n) x (λ n g. cc) (sym (cond-false (is_letter c) _ _ l ∙ cond-false (is_digit c) _ _ e ∙ cond-false (c == 34) _ _ f) ∙ h))
+
+front_passes : (bs : List ℕ) → begins_with_letter (front bs) ≡ true → list_all is_word (front bs) ≡ true
+front_passes [] h = refl
+front_passes (c ∷ cs) h = front_cases (λ f. begins_with_letter f ≡ true → list_all is_word f ≡ true) c cs (λ _ _. run_passes is_word (c ∷ cs)) (λ w _ l. let none = (or_parts (is_letter c) (is_digit c) w).0 in cc) (λ w _ l. let none = (or_parts (is_letter c) (is_digit c) w).0 in cc) h
+
+pub front_name : (bs x : List ℕ) → kind_of (front bs) ≡ Some (Name x) → IsName x
+front_name bs x h =
+    let s = spells (front bs) x h in
+    subst (λ w. IsName w) s.is (record { begins = s.begins; word = front_passes bs s.begins; no_key = s.no_key })
+
+front_named : (bs : List ℕ) (kind : Kind) → kind_of (front bs) ≡ Some kind → IsNamed kind
+front_named bs (Name x) h = front_name bs x h
+front_named bs _ h = tt
+
+named_scan : {a l : ℕ} {bs r : List ℕ} {ts : List Token} → Scan a bs ts l r → AllNamed ts
+named_scan done = tt
+named_scan (blank h s) = named_scan s
+named_scan (token {bytes = bytes} {kind = kind} k s) = (front_named bytes kind k, named_scan s)
+
+-- the names among a text's tokens are names
+pub Scans_named : (b : List ℕ) (ts : List Token) → Scans b ts → AllNamed ts
+Scans_named b ts s = named_scan s
+
+pub AllNamed_at : (ts us : List Token) (t : Token) → AllNamed (ts ++ t ∷ us) → IsNamed t.kind
+AllNamed_at [] us t h = h.0
+AllNamed_at (t' ∷ ts) us t h = AllNamed_at ts us t h.1

@@ -1,5 +1,5 @@
 -- The tokens of the first form, with nothing but blanks between them (C99 6.4).
-use Rattle.std.specs.Prelude.{◌≡◌, ℕ, ◌+◌, ◌-◌, ◌*◌, ◌^◌, Bool, true, false, not, ◌==◌, ◌&&◌, ◌||◌, nat_le, nat_lt, IsTrue, if◌then◌else◌, List, [], ◌∷◌, ◌++◌, length, take, drop, fold, take_while, pos, ℤ, Option, Some, None, option_map, codes, bytes_eq}
+use Rattle.std.specs.Prelude.{◌≡◌, ℕ, ◌+◌, ◌-◌, ◌*◌, ◌^◌, Bool, true, false, not, ◌==◌, ◌&&◌, ◌||◌, nat_le, nat_lt, if◌then◌else◌, List, [], ◌∷◌, ◌++◌, length, take, drop, fold, take_while, pos, ℤ, Option, Some, None, option_map, codes, bytes_eq}
 use Rattle.std.specs.List.{list_all}
 use Rattle.c_lexer.specs.declared.token.Token.{Token}
 use Rattle.c_lexer.specs.declared.token.Kind.{Kind}
@@ -24,11 +24,22 @@ is_word c = is_letter c || is_digit c
 -- that a quote begins, or one byte
 abbrev pub front : List ℕ → List ℕ
 front [] = []
-front (c ∷ cs) = if is_word c then take_while is_word (c ∷ cs) else (if c == 34 then take 6 (c ∷ cs) else c ∷ [])
+front (c ∷ cs) =
+    if is_word c then take_while is_word (c ∷ cs)
+    else (if c == 34 then take 6 (c ∷ cs)
+    else c ∷ [])
 
 -- the number of a key word (6.4.1)
 abbrev pub key_of : List ℕ → Option ℕ
-key_of w = if bytes_eq w (codes "free") then Some KEY_FREE else (if bytes_eq w (codes "int") then Some KEY_INT else (if bytes_eq w (codes "malloc") then Some KEY_MALLOC else (if bytes_eq w (codes "printf") then Some KEY_PRINTF else (if bytes_eq w (codes "return") then Some KEY_RETURN else (if bytes_eq w (codes "sizeof") then Some KEY_SIZEOF else (if bytes_eq w (codes "void") then Some KEY_VOID else None))))))
+key_of w =
+    if bytes_eq w (codes "free") then Some KEY_FREE
+    else (if bytes_eq w (codes "int") then Some KEY_INT
+    else (if bytes_eq w (codes "malloc") then Some KEY_MALLOC
+    else (if bytes_eq w (codes "printf") then Some KEY_PRINTF
+    else (if bytes_eq w (codes "return") then Some KEY_RETURN
+    else (if bytes_eq w (codes "sizeof") then Some KEY_SIZEOF
+    else (if bytes_eq w (codes "void") then Some KEY_VOID
+    else None))))))
 
 abbrev pub key_or_name : List ℕ → Option ℕ → Kind
 key_or_name w None = Name w
@@ -38,7 +49,7 @@ key_or_name w (Some k) = Key k
 abbrev pub digits_value : List ℕ → ℕ
 digits_value digits = fold (λ n c. 10 * n + (c - 48)) 0 digits
 
--- that value, where an int has it
+-- that value, where an int of 32 bits has it
 abbrev pub int_of : List ℕ → Option ℤ
 int_of digits = if nat_lt (digits_value digits) (2 ^ 31) then Some (pos (digits_value digits)) else None
 
@@ -62,12 +73,25 @@ text_of w = if bytes_eq w text_spelling then Some text_bytes else None
 
 -- the number of a punctuator, each of one byte: ( ) * , ; = { } (6.4.6)
 abbrev pub punct_of : ℕ → Option ℕ
-punct_of c = if c == 40 then Some PUNCT_OPEN else (if c == 41 then Some PUNCT_CLOSE else (if c == 42 then Some PUNCT_STAR else (if c == 44 then Some PUNCT_COMMA else (if c == 59 then Some PUNCT_SEMICOLON else (if c == 61 then Some PUNCT_ASSIGN else (if c == 123 then Some PUNCT_OPEN_BRACE else (if c == 125 then Some PUNCT_CLOSE_BRACE else None)))))))
+punct_of c =
+    if c == 40 then Some PUNCT_OPEN
+    else (if c == 41 then Some PUNCT_CLOSE
+    else (if c == 42 then Some PUNCT_STAR
+    else (if c == 44 then Some PUNCT_COMMA
+    else (if c == 59 then Some PUNCT_SEMICOLON
+    else (if c == 61 then Some PUNCT_ASSIGN
+    else (if c == 123 then Some PUNCT_OPEN_BRACE
+    else (if c == 125 then Some PUNCT_CLOSE_BRACE
+    else None)))))))
 
 -- what the bytes of a token are
 abbrev pub kind_of : List ℕ → Option Kind
 kind_of [] = None
-kind_of (c ∷ cs) = if is_letter c then Some (key_or_name (c ∷ cs) (key_of (c ∷ cs))) else (if is_digit c then option_map Number (number_of (c ∷ cs)) else (if c == 34 then option_map Text (text_of (c ∷ cs)) else option_map Punct (punct_of c)))
+kind_of (c ∷ cs) =
+    if is_letter c then Some (key_or_name (c ∷ cs) (key_of (c ∷ cs)))
+    else (if is_digit c then option_map Number (number_of (c ∷ cs))
+    else (if c == 34 then option_map Text (text_of (c ∷ cs))
+    else option_map Punct (punct_of c)))
 
 -- a token of n bytes at an offset
 abbrev pub token_of : Kind → ℕ → ℕ → Token
@@ -80,8 +104,14 @@ token_at at bytes = option_map (λ kind. token_of kind at (length (front bytes))
 -- From the offset `at` on, the bytes are blanks and these tokens, down to the bytes `rest` at the offset `last`.
 pub data Scan : ℕ → List ℕ → List Token → ℕ → List ℕ → Type 0 where
   done : {at : ℕ} {rest : List ℕ} → Scan at rest [] at rest
-  blank : {at c last : ℕ} {bytes rest : List ℕ} {ts : List Token} → is_blank c ≡ true → Scan (at + 1) bytes ts last rest → Scan at (c ∷ bytes) ts last rest
-  token : {at last : ℕ} {bytes rest : List ℕ} {ts : List Token} {kind : Kind} → kind_of (front bytes) ≡ Some kind → Scan (at + length (front bytes)) (drop (length (front bytes)) bytes) ts last rest → Scan at bytes (token_of kind at (length (front bytes)) ∷ ts) last rest
+  blank : {at c last : ℕ} {bytes rest : List ℕ} {ts : List Token}
+      → is_blank c ≡ true
+      → Scan (at + 1) bytes ts last rest
+      → Scan at (c ∷ bytes) ts last rest
+  token : {at last : ℕ} {bytes rest : List ℕ} {ts : List Token} {kind : Kind}
+      → kind_of (front bytes) ≡ Some kind
+      → Scan (at + length (front bytes)) (drop (length (front bytes)) bytes) ts last rest
+      → Scan at bytes (token_of kind at (length (front bytes)) ∷ ts) last rest
 
 -- the bytes are blanks and these tokens
 abbrev pub Scans : List ℕ → List Token → Type 0
@@ -105,7 +135,13 @@ free_text x = codes " free(" ++ x ++ codes "); "
 
 -- its tokens, where it begins at an offset
 abbrev pub free_tokens_of : ℕ → List ℕ → List Token
-free_tokens_of at x = token_of (Key KEY_FREE) (at + 1) 4 ∷ token_of (Punct PUNCT_OPEN) (at + 5) 1 ∷ token_of (Name x) (at + 6) (length x) ∷ token_of (Punct PUNCT_CLOSE) (at + 6 + length x) 1 ∷ token_of (Punct PUNCT_SEMICOLON) (at + 7 + length x) 1 ∷ []
+free_tokens_of at x =
+    token_of (Key KEY_FREE) (at + 1) 4
+    ∷ token_of (Punct PUNCT_OPEN) (at + 5) 1
+    ∷ token_of (Name x) (at + 6) (length x)
+    ∷ token_of (Punct PUNCT_CLOSE) (at + 6 + length x) 1
+    ∷ token_of (Punct PUNCT_SEMICOLON) (at + 7 + length x) 1
+    ∷ []
 
 -- the tokens of such texts, one behind the other
 abbrev pub free_tokens : ℕ → List (List ℕ) → List Token

@@ -1,5 +1,5 @@
 //! The tokens of the first form.
-ghost use Rattle.std.specs.Prelude.{◌≡◌, ◌+◌, ◌^◌, ◌<◌, ◌≤◌, IfOk, IfSome, IfNone, List, length, drop};
+ghost use Rattle.std.specs.Prelude.{◌≡◌, ◌+◌, ◌≤◌, IfOk, IfSome, IfNone, List, length, drop};
 ghost use Rattle.std.specs.List.{list_all, prefix_len};
 ghost use Rattle.c_lexer.specs.declared.token.Token.{Token};
 ghost use Rattle.memfix_engine.specs.Scan.{is_blank, is_digit, is_letter, is_word, front, key_of, key_or_name, int_of, has_leading_zero, number_of, text_of, punct_of, kind_of, token_at, Scans};
@@ -170,17 +170,21 @@ fn kind_of(alloc: Global, word: &[u8]) -> Result<Option<Kind>, AllocError>
     }
 }
 
-/// The token at the front of bytes that begin at an offset with no blank.
-fn token_at(alloc: Global, at: usize, bytes: &[u8]) -> Result<Option<Token>, AllocError>
-    requires { at + length bytes.now < 2 ^ 64 }
-    ensures { IfOk result (λ token. token ≡ token_at at bytes.now) }
+/// The token at an offset at which no blank stands.
+fn token_at(alloc: Global, bytes: &[u8], at: usize) -> Result<Option<Token>, AllocError>
+    requires { at ≤ length bytes.now }
+    ensures { IfOk result (λ token. token ≡ token_at at (drop at bytes.now)) }
 {
-    let word = front(bytes);
+    let word = front(&bytes[at..]);
     let Some(kind) = kind_of(alloc, word)? else {
         return Ok(None);
     };
     let end = at + word.len();
-    Ok(Some(Token { kind, start: at, end }))
+    Ok(Some(Token {
+        kind,
+        start: at,
+        end,
+    }))
 }
 
 /// The offset of the first byte from `at` on that is no blank.
@@ -195,16 +199,66 @@ fn after_blanks(bytes: &[u8], at: usize) -> usize
 /// The tokens of a text with nothing but blanks between them.
 pub(crate) fn scan(alloc: Global, bytes: &[u8]) -> Result<Option<Seq<Token>>, AllocError>
     ensures found { IfOk result (λ tokens. IfSome tokens (Scans bytes.now)) }
-    ensures none { IfOk result (λ tokens. IfNone tokens ((ts : List Token) → Scans bytes.now ts → ⊥)) }
+    ensures none { IfOk result
+        (λ tokens. IfNone tokens ((ts : List Token) → Scans bytes.now ts → ⊥)) }
 {
     let mut tokens = Seq::new(alloc);
     let mut at = after_blanks(bytes, 0);
     while at < bytes.len() {
-        let Some(token) = token_at(alloc, at, &bytes[at..])? else {
+        let Some(token) = token_at(alloc, bytes, at)? else {
             return Ok(None);
         };
         at = after_blanks(bytes, token.end);
         tokens.push(token)?;
     }
     Ok(Some(tokens))
+}
+
+#[cfg(test)]
+mod tests {
+    use super::*;
+    use std::test::Fail;
+
+    #[test]
+    fn counts_tokens(rt: HostRuntime) -> Result<(), Fail> {
+        let table: [(&str, Option<usize>); 14] = [
+            ("", Some(0)),
+            ("intx", Some(1)),
+            ("int x", Some(2)),
+            ("0", Some(1)),
+            ("07", None),
+            ("7x", None),
+            ("2147483647", Some(1)),
+            ("2147483648", None),
+            ("99999999999999999999", None),
+            ("\"%d\\n\"", Some(1)),
+            ("\"%d\"", None),
+            ("*p=7;free(p);", Some(10)),
+            ("\t\n\u{b}\u{c}\r ;\t\n\u{b}\u{c}\r ", Some(1)),
+            ("a/* */", None),
+        ];
+        for (text, count) in table.iter() {
+            let found = scan(rt.alloc(), text.as_bytes())?.map(|tokens| tokens.len());
+            assert_eq!(rt; found, *count, "{text}");
+        }
+        Ok(())
+    }
+
+    #[test]
+    fn tells_names_from_key_words(rt: HostRuntime) -> Result<(), Fail> {
+        for (text, key) in [
+            ("intx", false),
+            ("int", true),
+            ("_free", false),
+            ("free", true),
+        ] {
+            let tokens = scan(rt.alloc(), text.as_bytes())?.ok_or("none")?;
+            let is_key = tokens
+                .as_slice()
+                .iter()
+                .any(|t| matches!(t.kind, Kind::Key(_)));
+            assert_eq!(rt; is_key, key, "{text}");
+        }
+        Ok(())
+    }
 }
