@@ -6,4 +6,9 @@ mod form;
 mod items;
 mod kinds;
 mod reading;
+mod refusal;
 mod scan;
+mod source;
+
+pub use refusal::{RepairRefusal, SourceRefusal};
+pub use source::read_source;

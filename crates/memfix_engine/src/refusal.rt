@@ -1,0 +1,47 @@
+//! Why a text is refused.
+
+use std::alloc::AllocError;
+use thiserror::Error;
+
+/// Why no program is read from a text.
+#[derive(Clone, Copy, Debug, PartialEq, Eq, Error)]
+pub enum SourceRefusal {
+    /// The text is of no form that is built; the offset is that of the place.
+    #[error("not built yet at byte {0}")]
+    NotBuilt(usize),
+    #[error("out of memory")]
+    Memory,
+}
+
+/// Why a text is not repaired. What `Source` holds is never `Memory`.
+#[derive(Clone, Copy, Debug, PartialEq, Eq, Error)]
+pub enum RepairRefusal {
+    #[error("too long")]
+    TooLong,
+    #[error("{0}")]
+    Source(SourceRefusal),
+    #[error("out of memory")]
+    Memory,
+}
+
+impl From<AllocError> for SourceRefusal {
+    ghost use Rattle.std.specs.Prelude.{◌≡◌};
+    ghost use Rattle.memfix_engine.specs.declared.refusal.SourceRefusal.TheVariants.{Memory};
+
+    ghost from_gives = { λ _ refusal. refusal ≡ Memory };
+
+    fn from(_: AllocError) -> SourceRefusal {
+        SourceRefusal::Memory
+    }
+}
+
+impl From<AllocError> for RepairRefusal {
+    ghost use Rattle.std.specs.Prelude.{◌≡◌};
+    ghost use Rattle.memfix_engine.specs.declared.refusal.RepairRefusal.TheVariants.{Memory};
+
+    ghost from_gives = { λ _ refusal. refusal ≡ Memory };
+
+    fn from(_: AllocError) -> RepairRefusal {
+        RepairRefusal::Memory
+    }
+}
