@@ -1,4 +1,5 @@
 pub mod FormLemmas
+pub mod ReadsLemmas
 pub mod ScanExamples
 pub mod ScanLemmas
 pub mod ScanLoop
