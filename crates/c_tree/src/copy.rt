@@ -12,7 +12,7 @@ use sqlite_items::{Boxed, Items};
 use std::alloc::Global;
 
 /// The puts of a gap.
-fn puts_of(puts: &[Put], gap: usize) -> &[Put]
+pub fn puts_of(puts: &[Put], gap: usize) -> &[Put]
     requires { IsTrue (ascends puts.now) }
     ensures { result.now ≡ puts_at puts.now gap }
 {

@@ -10,7 +10,7 @@ mod program;
 
 pub use alike::same_skeleton;
 pub use choice::{Choice, Put};
-pub use copy::{fill, skeleton};
+pub use copy::{fill, puts_of, skeleton};
 pub use duplicate::Duplicate;
 pub use expr::{Expr, Op, Oper, Sign};
 pub use program::{

@@ -1,3 +1,4 @@
+pub mod EditLemmas
 pub mod FormLemmas
 pub mod ReadsLemmas
 pub mod ScanExamples

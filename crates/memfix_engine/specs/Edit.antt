@@ -10,12 +10,8 @@ use Rattle.c_tree.specs.declared.program.VarDef.{VarDef}
 use Rattle.c_tree.specs.declared.program.FunDef.{FunDef}
 use Rattle.c_tree.specs.declared.program.Program.{Program}
 use Rattle.c_tree.specs.Fill.{puts_at}
+use Rattle.memfix_engine.specs.declared.edit.Insertion.{Insertion}
 use Rattle.memfix_engine.specs.Scan.{free_text}
-
--- what is written at a place of the text, by its offset
-pub record Insertion : Type 0 where
-  pub at : ℕ
-  pub text : List ℕ
 
 abbrev pub name_of : List VarDef → ℕ → List ℕ
 name_of vars x = unwrap_or (option_map (λ v. v.name) (slice_get vars x)) []

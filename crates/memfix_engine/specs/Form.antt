@@ -116,7 +116,7 @@ draft_of ss head tail = record {
   number_at = start_at tail 1;
   return_end = end_at tail 2;
   close_at = start_at tail 3;
-  close_end = end_at tail 3
+  close_end = end_at tail 3;
 }
 
 -- the tokens are of the first form, and the draft is read off them

@@ -5,3 +5,4 @@ pub mod Reads
 pub mod Refusal
 pub mod Repair
 pub mod Scan
+pub mod Straight

@@ -2,13 +2,16 @@
 #![tactic(auto)]
 
 mod draft;
+mod edit;
 mod form;
 mod items;
 mod kinds;
 mod reading;
 mod refusal;
+mod repairs;
 mod scan;
 mod source;
 
 pub use refusal::{RepairRefusal, SourceRefusal};
+pub use repairs::{SOURCE_LIMIT, repair};
 pub use source::read_source;

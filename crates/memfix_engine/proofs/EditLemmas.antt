@@ -1,0 +1,23 @@
+-- The choice of a repair ascends.
+use Rattle.std.proofs.Common.{◌≡◌, ℕ, zero, suc, ◌+◌, ◌<◌, Bool, true, false, ◌==◌, ◌&&◌, ◌||◌, nat_lt, List, [], ◌∷◌, ◌++◌, map, refl, sym, ◌∙◌, ap, arith, add-one}
+use Rattle.std.proofs.lemmas.Bool.{eq-eqb, lt-ltb}
+use Rattle.std.specs.List.{range_with_len}
+use Rattle.c_tree.specs.Fill.{ascends, precedes}
+use Rattle.memfix_engine.specs.Repair.{put_of}
+
+or_right : (a b c : Bool) → b ≡ true → c ≡ true → (a || (b && c)) ≡ true
+or_right true b c p q = refl
+or_right false b c p q = rw (p, q) refl
+
+next_precedes : (g a : ℕ) → precedes (put_of g a) (put_of g (a + 1)) ≡ true
+next_precedes g a = or_right (nat_lt g g) (g == g) (nat_lt a (a + 1)) (eq-eqb g g refl) (lt-ltb a (a + 1) (omega arith))
+
+both : (a b : Bool) → a ≡ true → b ≡ true → (a && b) ≡ true
+both a b p q = rw (p, q) refl
+
+pub ascends-range : (g a n : ℕ) → ascends (map (put_of g) (range_with_len a n)) ≡ true
+ascends-range g a zero = refl
+ascends-range g a (suc zero) = refl
+ascends-range g a (suc (suc n)) =
+    both (precedes (put_of g a) (put_of g (a + 1))) (ascends (map (put_of g) (range_with_len (a + 1) (suc n))))
+    (next_precedes g a) (ascends-range g (a + 1) (suc n))
