@@ -21,3 +21,21 @@ ascends-range g a (suc zero) = refl
 ascends-range g a (suc (suc n)) =
     both (precedes (put_of g a) (put_of g (a + 1))) (ascends (map (put_of g) (range_with_len (a + 1) (suc n))))
     (next_precedes g a) (ascends-range g (a + 1) (suc n))
+
+range-snoc : (a n : ℕ) → range_with_len a (suc n) ≡ range_with_len a n ++ (a + n) ∷ []
+range-snoc a zero = let e : a ≡ a + 0 = omega arith in ap (λ x. x ∷ []) e
+range-snoc a (suc n) =
+    let e : (a + 1) + n ≡ a + suc n = omega arith in
+    ap (λ xs. a ∷ xs) (range-snoc (a + 1) n ∙ ap (λ x. range_with_len (a + 1) n ++ x ∷ []) e)
+
+map-snoc : {A B : Type 0} (f : A → B) (xs : List A) (x : A) → map f (xs ++ x ∷ []) ≡ map f xs ++ f x ∷ []
+map-snoc f [] x = refl
+map-snoc f (y ∷ xs) x = ap (λ ys. f y ∷ ys) (map-snoc f xs x)
+
+-- one put more
+pub puts-more : (g n : ℕ) → map (put_of g) (range_with_len 0 (n + 1)) ≡ map (put_of g) (range_with_len 0 n) ++ put_of g n ∷ []
+puts-more g n =
+    let e : n + 1 ≡ suc n = omega arith in
+    let z : 0 + n ≡ n = omega arith in
+    ap (λ k. map (put_of g) (range_with_len 0 k)) e ∙ ap (map (put_of g)) (range-snoc 0 n)
+    ∙ map-snoc (put_of g) (range_with_len 0 n) (0 + n) ∙ ap (λ k. map (put_of g) (range_with_len 0 n) ++ put_of g k ∷ []) z
