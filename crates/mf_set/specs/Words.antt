@@ -1,0 +1,18 @@
+-- A set of numbers in words of 64 bits: the number n has the bit n % 64 of the word n / 64.
+use Rattle.std.specs.Prelude.{◌≡◌, ℕ, ◌+◌, ◌*◌, ◌/◌, ◌%◌, ◌^◌, ◌<◌, Bool, true, List, length, slice_index, ◌==◌}
+use Rattle.std.specs.Int.{bit_at}
+use Rattle.std.specs.List.{filter, range_with_len}
+
+-- whether the bit of n is set
+unfoldable pub has_bit : List ℕ → ℕ → Bool
+has_bit ws n = bit_at (slice_index ws (n / 64)) (n % 64) == 1
+
+-- the numbers whose bits are set, ascending
+unfoldable pub numbers_of : List ℕ → List ℕ
+numbers_of ws = filter (has_bit ws) (range_with_len 0 (64 * length ws))
+
+-- the words are as many as a room takes, of 64 bits each, and have no bit at the room or above
+pub record AreWords (room : ℕ) (ws : List ℕ) : Type 0 where
+  pub count : length ws ≡ (room + 63) / 64
+  pub fit : (k : ℕ) → slice_index ws k < 2 ^ 64
+  pub below : (n : ℕ) → has_bit ws n ≡ true → n < room
