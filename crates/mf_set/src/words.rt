@@ -1,0 +1,86 @@
+// Sets of numbers in words of 64 bits: the number n has the bit n % 64 of the word n / 64.
+ghost use Rattle.std.specs.Prelude.{◌≡◌, ℕ, ◌+◌, ◌-◌, ◌*◌, ◌/◌, ◌%◌, ◌^◌, ◌<◌, ◌≤◌, ◌&&◌, ◌||◌, ◌==◌, ◌↔◌, not, true, false, length, reverse, slice_index, count_ones, nat_le, IsTrue};
+ghost use Rattle.std.specs.List.{sum_by};
+ghost use Rattle.std.specs.Ordering.{nat_cmp};
+ghost use Rattle.std.specs.Cmp.Lexicographic.{slice_cmp};
+ghost use Rattle.mf_set.specs.Words.{bit_of, has_bit, numbers_of, IsLeastOrNone};
+
+use std::cmp::Ordering;
+
+// The bits of a word.
+const WORD_BITS: usize = 64;
+
+pub fn insert(words: &mut [u64], number: usize)
+    requires { number / 64 < length words.old }
+    ensures { (n : ℕ) → has_bit words.new n ≡ (number == n || has_bit words.old n) }
+{
+    words[number / WORD_BITS] |= 1 << (number % WORD_BITS);
+}
+
+pub fn remove(words: &mut [u64], number: usize)
+    requires { number / 64 < length words.old }
+    ensures { (n : ℕ) → has_bit words.new n ≡ (has_bit words.old n && not (n == number)) }
+{
+    words[number / WORD_BITS] &= !(1 << (number % WORD_BITS));
+}
+
+// The word at an index, or 0 past the end.
+fn word_at(words: &[u64], index: usize) -> u64
+    ensures { result ≡ slice_index words.now index }
+{
+    words.get(index).copied().unwrap_or(0)
+}
+
+pub fn contains(words: &[u64], number: usize) -> bool
+    ensures { result ≡ has_bit words.now number }
+{
+    word_at(words, number / WORD_BITS) >> (number % WORD_BITS) & 1 == 1
+}
+
+pub fn is_empty(words: &[u64]) -> bool
+    ensures { IsTrue result ↔ ((n : ℕ) → has_bit words.now n ≡ false) }
+{
+    words.iter().all(|word| *word == 0)
+}
+
+pub fn union_with(words: &mut [u64], other: &[u64])
+    requires { length words.old ≡ length other.now }
+    ensures { (n : ℕ) → has_bit words.new n ≡ (has_bit words.old n || has_bit other.now n) }
+{
+    for (i, word) in words.iter_mut().enumerate() {
+        *word |= other[i];
+    }
+}
+
+pub fn meet_with(words: &mut [u64], other: &[u64])
+    requires { length words.old ≡ length other.now }
+    ensures { (n : ℕ) → has_bit words.new n ≡ (has_bit words.old n && has_bit other.now n) }
+{
+    for (i, word) in words.iter_mut().enumerate() {
+        *word &= other[i];
+    }
+}
+
+pub fn is_subset(words: &[u64], other: &[u64]) -> bool
+    ensures { IsTrue result ↔ ((n : ℕ) → has_bit words.now n ≡ true → has_bit other.now n ≡ true) }
+{
+    for (i, word) in words.iter().enumerate() {
+        if *word & !word_at(other, i) != 0 {
+            return false;
+        }
+    }
+    true
+}
+
+pub fn first_common(words: &[u64], other: &[u64]) -> Option<usize>
+    requires { 64 * length words.now ≤ 2 ^ 64 }
+    ensures { IsLeastOrNone (λ n. has_bit words.now n && has_bit other.now n) result }
+{
+    for (i, word) in words.iter().enumerate() {
+        let both = *word & word_at(other, i);
+        if both != 0 {
+            return Some(WORD_BITS * i + both.trailing_zeros() as usize);
+        }
+    }
+    None
+}
