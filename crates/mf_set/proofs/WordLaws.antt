@@ -1,13 +1,13 @@
 -- Laws of sets in words: the numbers of the words are those whose bits are set, and what a write to a word leaves.
-use Rattle.std.proofs.Common.{◌≡◌, ◌≢◌, ℕ, zero, suc, ◌+◌, ◌-◌, ◌*◌, ◌/◌, ◌%◌, ◌^◌, ◌<◌, ◌≤◌, min, max, Bool, true, false, not, cond, ◌&&◌, ◌||◌, ◌⊎◌, Some, None, inl, inr, ⊎_elim, List, [], ◌∷◌, ◌++◌, length, get_or, set, eqb, ltb, refl, sym, ap, ◌∙◌, subst, arith, rules}
-use Rattle.std.proofs.lemmas.Bool.{true≢false, false≢true, eqb-true, eqb-false, eq-eqb, ne_eqb, or_cases, cases_Bool, cases_eq, cases_lt, or_left, or_right}
+use Rattle.std.proofs.Common.{◌≡◌, ◌≢◌, ℕ, zero, suc, ◌+◌, ◌-◌, ◌*◌, ◌/◌, ◌%◌, ◌^◌, ◌<◌, ◌≤◌, min, max, Bool, true, false, not, cond, ◌&&◌, ◌||◌, ◌⊎◌, Some, None, inl, inr, ⊎_elim, List, [], ◌∷◌, ◌++◌, length, get_or, set, eqb, ltb, leb, refl, sym, ap, ◌∙◌, subst, arith, rules}
+use Rattle.std.proofs.lemmas.Bool.{true≢false, false≢true, eqb-true, eqb-false, eq-eqb, ne_eqb, or_cases, cases_Bool, cases_eq, cases_lt, or_left, or_right, and_parts, and_from, le-leb, lt-leb}
 use Rattle.std.proofs.lemmas.Bool.Decides.{nat_tests}
 use Rattle.std.proofs.lemmas.List.{get_or-set_same, get_or-set_other, get_or_past}
-use Rattle.std.proofs.lemmas.Nat.Bits.{bit_at_and, bit_at_or, bit_at-zero, bit_at-lt, bit_at_not, bit_at-trailing_zeros, bit_at_set_same, bit_at_set_other, bit_at_clear_same, bit_at_clear_other}
+use Rattle.std.proofs.lemmas.Nat.Bits.{bit_at_and, bit_at_or, bit_at-zero, bit_at-lt, bit_at_not, bit_at-trailing_zeros, bit_at_set_same, bit_at_set_other, ones_shl, bit_at_mask_inside, bit_at_mask_below, bit_at_clear_same, bit_at_clear_other}
 use Rattle.std.specs.Prelude.{bit_and, bit_or}
 use Rattle.std.proofs.lemmas.Nat.{and_le_l}
 use Rattle.std.specs.Int.{bit_at, bit_not, trailing_zeros, w64}
-use Rattle.std.specs.List.{filter, range_with_len}
+use Rattle.std.specs.List.{filter, list_all, range_with_len}
 use Rattle.mf_set.specs.Numbers.{has, IsAscendingFrom}
 use Rattle.mf_set.specs.Words.{bit_of, has_bit, numbers_of, AreWords, IsLeast, IsLeastOrNone}
 use Rattle.mf_set.proofs.NumberLaws.{has-filter, IsAscendingFrom-filter, same_from_members}
@@ -217,16 +217,72 @@ lost_by true true e = absurd (false≢true e)
 lost_by true false e = (refl, refl)
 lost_by false y e = absurd (false≢true e)
 
-pub no_bit_lacks : (us vs : List ℕ) (i : ℕ) → get_or vs i 0 < 2 ^ 64 → bit_and (get_or us i 0) (bit_not w64 (get_or vs i 0)) ≡ 0 → ((n : ℕ) → n < 64 * i → has_bit us n ≡ true → has_bit vs n ≡ true) → (n : ℕ) → n < 64 * (i + 1) → has_bit us n ≡ true → has_bit vs n ≡ true
-no_bit_lacks us vs i fits none before =
+pub no_bit_lacks : (us vs : List ℕ) (i v : ℕ) → v ≡ get_or vs i 0 → v < 2 ^ 64 → bit_and (get_or us i 0) (bit_not w64 v) ≡ 0 → ((n : ℕ) → n < 64 * i → has_bit us n ≡ true → has_bit vs n ≡ true) → (n : ℕ) → n < 64 * (i + 1) → has_bit us n ≡ true → has_bit vs n ≡ true
+no_bit_lacks us vs i v e fits none before =
     each_bit_more (λ n. has_bit us n ≡ true → has_bit vs n ≡ true) i before
-        (λ j l h. has_bit_at vs i j l ∙ kept_by (bit_of (get_or us i 0) j) (bit_of (get_or vs i 0) j) (sym (bit_of-lacks (get_or us i 0) (get_or vs i 0) j fits l) ∙ ap (λ v. bit_of v j) none ∙ zero_word j) (sym (has_bit_at us i j l) ∙ h))
+        (λ j l h. has_bit_at vs i j l ∙ ap (λ w. bit_of w j) (sym e) ∙ kept_by (bit_of (get_or us i 0) j) (bit_of v j) (sym (bit_of-lacks (get_or us i 0) v j fits l) ∙ ap (λ w. bit_of w j) none ∙ zero_word j) (sym (has_bit_at us i j l) ∙ h))
 
-pub some_bit_lacks : (us vs : List ℕ) (i : ℕ) → get_or us i 0 < 2 ^ 64 → get_or vs i 0 < 2 ^ 64 → 0 < bit_and (get_or us i 0) (bit_not w64 (get_or vs i 0)) → ((n : ℕ) → has_bit us n ≡ true → has_bit vs n ≡ true) → ⊥
-some_bit_lacks us vs i fits fits' some all =
-    let lacking : ℕ = bit_and (get_or us i 0) (bit_not w64 (get_or vs i 0)) in
-    let small : lacking < 2 ^ 64 = omega (arith, and_le_l (get_or us i 0) (bit_not w64 (get_or vs i 0))) in
+pub some_bit_lacks : (us vs : List ℕ) (i v : ℕ) → v ≡ get_or vs i 0 → v < 2 ^ 64 → get_or us i 0 < 2 ^ 64 → 0 < bit_and (get_or us i 0) (bit_not w64 v) → ((n : ℕ) → has_bit us n ≡ true → has_bit vs n ≡ true) → ⊥
+some_bit_lacks us vs i v e fits fits' some all =
+    let lacking : ℕ = bit_and (get_or us i 0) (bit_not w64 v) in
+    let small : lacking < 2 ^ 64 = omega (arith, and_le_l (get_or us i 0) (bit_not w64 v)) in
     let low = bit_at-trailing_zeros w64 lacking some small in
     let j : ℕ = trailing_zeros w64 lacking in
-    let is = lost_by (bit_of (get_or us i 0) j) (bit_of (get_or vs i 0) j) (sym (bit_of-lacks (get_or us i 0) (get_or vs i 0) j fits' low.0) ∙ ap (λ v. eqb v 1) low.1) in
-    false≢true (sym is.1 ∙ sym (has_bit_at vs i j low.0) ∙ all (64 * i + j) (has_bit_at us i j low.0 ∙ is.0))
+    let is = lost_by (bit_of (get_or us i 0) j) (bit_of v j) (sym (bit_of-lacks (get_or us i 0) v j fits low.0) ∙ ap (λ w. eqb w 1) low.1) in
+    false≢true (sym is.1 ∙ ap (λ w. bit_of w j) e ∙ sym (has_bit_at vs i j low.0) ∙ all (64 * i + j) (has_bit_at us i j low.0 ∙ is.0))
+
+pub each_past : (us vs : List ℕ) (i : ℕ) → length us ≤ i → ((n : ℕ) → n < 64 * i → has_bit us n ≡ true → has_bit vs n ≡ true) → (n : ℕ) → has_bit us n ≡ true → has_bit vs n ≡ true
+each_past us vs i all before n h =
+    ⊎_elim (λ l. before n l h) (λ g. absurd (false≢true (sym (has_bit_past us n (omega arith)) ∙ h))) (cases_lt n (64 * i))
+
+-- ---- what a scan of the words finds
+pub common_here : (us vs : List ℕ) (i v j : ℕ) → v ≡ get_or vs i 0 → j < 64 → (has_bit us (64 * i + j) && has_bit vs (64 * i + j)) ≡ bit_of (bit_and (get_or us i 0) v) j
+common_here us vs i v j e l =
+    ap (λ b. b && has_bit vs (64 * i + j)) (has_bit_at us i j l)
+    ∙ ap (λ b. bit_of (get_or us i 0) j && b) (has_bit_at vs i j l ∙ ap (λ w. bit_of w j) (sym e))
+    ∙ sym (one_at_and (get_or us i 0) v j)
+
+-- a test that wants a bit of the words fails at each number, where it fails below their end
+pub none_past : (test : ℕ → Bool) (ws : List ℕ) (i : ℕ) → length ws ≤ i → ((n : ℕ) → has_bit ws n ≡ false → test n ≡ false) → ((n : ℕ) → n < 64 * i → test n ≡ false) → (n : ℕ) → test n ≡ false
+none_past test ws i all wants before n =
+    ⊎_elim (λ l. before n l) (λ g. wants n (has_bit_past ws n (omega arith))) (cases_lt n (64 * i))
+
+-- the bits of a word from a number on
+pub bit_of-from : (w from j : ℕ) → j < 64 → bit_of (bit_and w ((2 ^ 64 - 1) * 2 ^ (from % 64) % 2 ^ 64)) j ≡ (leb from (64 * (from / 64) + j) && bit_of w j)
+bit_of-from w from j l =
+    let low : from % 64 ≤ 64 = omega arith in
+    one_at_and w ((2 ^ 64 - 1) * 2 ^ (from % 64) % 2 ^ 64) j
+    ∙ ap (λ m. bit_of w j && bit_of m j) (ones_shl 64 (from % 64) low)
+    ∙ ⊎_elim
+        (λ under. ap (λ v. bit_of w j && eqb v 1) (bit_at_mask_below (from % 64) 64 j under) ∙ sym (and_false (bit_of w j)) ∙ ap (λ b. b && bit_of w j) (sym (lt-leb from (64 * (from / 64) + j) (omega arith))))
+        (λ over. ap (λ v. bit_of w j && eqb v 1) (bit_at_mask_inside (from % 64) 64 j over l) ∙ sym (and_true (bit_of w j)) ∙ ap (λ b. b && bit_of w j) (sym (le-leb from (64 * (from / 64) + j) (omega arith))))
+        (cases_lt j (from % 64))
+
+-- ---- no bit at all
+no_words : (ws : List ℕ) → list_all (λ w. eqb w 0) ws ≡ true → (k : ℕ) → get_or ws k 0 ≡ 0
+no_words [] h k = refl
+no_words (w ∷ ws) h zero = eqb-true w 0 (and_parts (eqb w 0) (list_all (λ v. eqb v 0) ws) h).0
+no_words (w ∷ ws) h (suc k) = no_words ws (and_parts (eqb w 0) (list_all (λ v. eqb v 0) ws) h).1 k
+
+pub has_no_bit : (ws : List ℕ) → list_all (λ w. eqb w 0) ws ≡ true → (n : ℕ) → has_bit ws n ≡ false
+unfolding has_bit
+has_no_bit ws h n = ap (λ w. bit_of w (n % 64)) (no_words ws h (n / 64)) ∙ zero_word (n % 64)
+
+zero_from_bits : (w : ℕ) → w < 2 ^ 64 → ((j : ℕ) → j < 64 → bit_of w j ≡ false) → w ≡ 0
+zero_from_bits w fits none =
+    ⊎_elim
+        (λ e. e)
+        (λ ne.
+            let low = bit_at-trailing_zeros w64 w (omega arith) fits in
+            absurd (false≢true (sym (none (trailing_zeros w64 w) low.0) ∙ ap (λ v. eqb v 1) low.1)))
+        (cases_eq w 0)
+
+all_zero : (ws : List ℕ) → ((k : ℕ) → k < length ws → get_or ws k 0 ≡ 0) → list_all (λ w. eqb w 0) ws ≡ true
+all_zero [] h = refl
+all_zero (w ∷ ws) h = and_from (eqb w 0) (list_all (λ v. eqb v 0) ws) (eq-eqb w 0 (h 0 (omega arith))) (all_zero ws (λ k l. h (suc k) (omega arith)))
+
+pub all_zero-from_bits : (ws : List ℕ) → ((k : ℕ) → get_or ws k 0 < 2 ^ 64) → ((n : ℕ) → has_bit ws n ≡ false) → list_all (λ w. eqb w 0) ws ≡ true
+all_zero-from_bits ws fit none = all_zero ws (λ k l. zero_from_bits (get_or ws k 0) (fit k) (λ j s. sym (has_bit_at ws k j s) ∙ none (64 * k + j)))
+
+pub from_here : (ws : List ℕ) (i w from : ℕ) → ((j : ℕ) → j < 64 → bit_of w j ≡ (leb from (64 * i + j) && bit_of (get_or ws i 0) j)) → (j : ℕ) → j < 64 → (leb from (64 * i + j) && has_bit ws (64 * i + j)) ≡ bit_of w j
+from_here ws i w from h j l = ap (λ b. leb from (64 * i + j) && b) (has_bit_at ws i j l) ∙ sym (h j l)

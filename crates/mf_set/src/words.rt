@@ -1,6 +1,6 @@
 // Sets of numbers in words of 64 bits: the number n has the bit n % 64 of the word n / 64.
 ghost use Rattle.std.specs.Prelude.{◌≡◌, ℕ, ◌+◌, ◌-◌, ◌*◌, ◌/◌, ◌%◌, ◌^◌, ◌<◌, ◌≤◌, ◌&&◌, ◌||◌, ◌==◌, ◌↔◌, not, true, false, length, reverse, slice_index, count_ones, nat_le, IsTrue};
-ghost use Rattle.std.specs.List.{sum_by};
+ghost use Rattle.std.specs.List.{list_all, sum_by};
 ghost use Rattle.std.specs.Ordering.{nat_cmp};
 ghost use Rattle.std.specs.Cmp.Lexicographic.{slice_cmp};
 ghost use Rattle.mf_set.specs.Words.{bit_of, has_bit, numbers_of, IsLeastOrNone};
@@ -38,7 +38,7 @@ pub fn contains(words: &[u64], number: usize) -> bool
 }
 
 pub fn is_empty(words: &[u64]) -> bool
-    ensures { IsTrue result ↔ ((n : ℕ) → has_bit words.now n ≡ false) }
+    ensures { result ≡ list_all (λ word. word == 0) words.now }
 {
     words.iter().all(|word| *word == 0)
 }
@@ -83,4 +83,51 @@ pub fn first_common(words: &[u64], other: &[u64]) -> Option<usize>
         }
     }
     None
+}
+
+// The word at an index without the bits of the numbers below `from`.
+fn word_from(words: &[u64], index: usize, from: usize) -> u64
+    requires { from / 64 ≤ index }
+    ensures { (j : ℕ) → j < 64 → bit_of result j ≡ (nat_le from (64 * index + j) && bit_of (slice_index words.now index) j) }
+{
+    let word = word_at(words, index);
+    if index == from / WORD_BITS {
+        word & u64::MAX << (from % WORD_BITS)
+    } else {
+        word
+    }
+}
+
+pub fn next_from(words: &[u64], from: usize) -> Option<usize>
+    requires { 64 * length words.now ≤ 2 ^ 64 }
+    ensures { IsLeastOrNone (λ n. nat_le from n && has_bit words.now n) result }
+{
+    for i in from / WORD_BITS..words.len() {
+        let word = word_from(words, i, from);
+        if word != 0 {
+            return Some(WORD_BITS * i + word.trailing_zeros() as usize);
+        }
+    }
+    None
+}
+
+pub fn count(words: &[u64]) -> usize
+    requires { sum_by count_ones words.now < 2 ^ 64 }
+    ensures { result ≡ sum_by count_ones words.now }
+{
+    words.iter().map(|word| word.count_ones() as usize).sum()
+}
+
+// Compares by the greatest number that is in one of the sets and not in the other.
+pub fn compare(words: &[u64], other: &[u64]) -> Ordering
+    requires { length words.now ≡ length other.now }
+    ensures { result ≡ slice_cmp nat_cmp (reverse (numbers_of words.now)) (reverse (numbers_of other.now)) }
+{
+    for i in (0..words.len()).rev() {
+        match words[i].cmp(&other[i]) {
+            Ordering::Equal => {}
+            unequal => return unequal,
+        }
+    }
+    Ordering::Equal
 }
