@@ -1,2 +1,5 @@
 pub mod NumberLaws
 pub mod WordLaws
+pub mod OrderLaws
+pub mod CountLaws
+pub mod InverseLaws
