@@ -6,7 +6,7 @@ use Rattle.std.proofs.lemmas.List.FromFn.{fill_by_all}
 use Rattle.std.proofs.Math.Nat.{mod-eq_of_lt}
 use Rattle.std.specs.Int.{bit_at}
 use Rattle.mf_set.specs.Numbers.{has, word_of, words_of}
-use Rattle.mf_set.specs.Words.{bit_of, has_bit, numbers_of, AreWords}
+use Rattle.mf_set.specs.Words.{bit_of, has_bit, numbers_of}
 use Rattle.mf_set.proofs.WordLaws.{has_bit_at, has-numbers_of}
 
 one_is : (v : ℕ) → v < 2 → cond (eqb v 1) 1 0 ≡ v
@@ -30,10 +30,15 @@ word_of-bits p w (suc n) h =
     ∙ sym (mod-pow-add w 1 n)
     ∙ ap (λ m. w % 2 ^ m) next
 
-pub words_of-numbers : (room : ℕ) (ws : List ℕ) → AreWords room ws → words_of room (numbers_of ws) ≡ ws
+pub words_of-numbers : (ws : List ℕ) → ((k : ℕ) → get_or ws k 0 < 2 ^ 64) → words_of (length ws) (numbers_of ws) ≡ ws
 unfolding words_of
-words_of-numbers room ws h =
-    sym (fill_by_all (λ i. word_of (λ j. has (numbers_of ws) (64 * i + j)) 64) ws ((room + 63) / 64) 0 h.count
+words_of-numbers ws fit =
+    sym (fill_by_all (λ i. word_of (λ j. has (numbers_of ws) (64 * i + j)) 64) ws (length ws) 0 refl
         (λ k l.
             sym (word_of-bits (λ j. has (numbers_of ws) (64 * k + j)) (get_or ws k 0) 64 (λ j s. has-numbers_of ws (64 * k + j) ∙ has_bit_at ws k j s)
-                ∙ mod-eq_of_lt (h.fit k))))
+                ∙ mod-eq_of_lt (fit k))))
+
+-- words of the same numbers are the same
+pub same_words : (us vs : List ℕ) → ((k : ℕ) → get_or us k 0 < 2 ^ 64) → ((k : ℕ) → get_or vs k 0 < 2 ^ 64) → length us ≡ length vs → numbers_of us ≡ numbers_of vs → us ≡ vs
+same_words us vs f g l e =
+    sym (words_of-numbers us f) ∙ ap (words_of (length us)) e ∙ ap (λ n. words_of n (numbers_of vs)) l ∙ words_of-numbers vs g

@@ -3,3 +3,4 @@ pub mod WordLaws
 pub mod OrderLaws
 pub mod CountLaws
 pub mod InverseLaws
+pub mod SetLaws

@@ -1,8 +1,8 @@
 -- Laws of sets that are seen as ascending lists: two such lists with the same members are equal, and what each call leaves has the members that its name says.
-use Rattle.std.proofs.Common.{◌≡◌, ◌≢◌, ℕ, zero, suc, ◌+◌, ◌<◌, ◌≤◌, Bool, true, false, not, cond, ◌&&◌, ◌||◌, ◌⊎◌, Some, None, inl, inr, ⊎_elim, List, [], ◌∷◌, ◌++◌, eqb, ltb, refl, sym, ap, ◌∙◌, subst, arith, rules}
-use Rattle.std.proofs.lemmas.Bool.{true≢false, false≢true, eqb-true, eqb-false, eq-eqb, ne_eqb, ltb-true, ltb-false, lt-ltb, le-ltb, or_cases, or_parts, or_from, and_parts, cases_Bool, cases_eq, cases_order, or_left, or_right}
-use Rattle.std.specs.List.{filter, find, list_any}
-use Rattle.mf_set.specs.Numbers.{has, IsAscendingFrom, IsBelow, with_number, without_number, union, meet}
+use Rattle.std.proofs.Common.{◌≡◌, ◌≢◌, ℕ, zero, suc, ◌+◌, ◌<◌, ◌≤◌, Bool, true, false, not, cond, ◌&&◌, ◌||◌, ◌⊎◌, Some, None, inl, inr, ⊎_elim, List, [], ◌∷◌, ◌++◌, length, get_or, eqb, ltb, refl, sym, ap, ◌∙◌, subst, arith, rules}
+use Rattle.std.proofs.lemmas.Bool.{true≢false, false≢true, eqb-true, eqb-false, eq-eqb, ne_eqb, ltb-true, ltb-false, lt-ltb, le-ltb, or_cases, or_parts, or_from, and_parts, and_from, cases_Bool, cases_eq, cases_order, or_left, or_right}
+use Rattle.std.specs.List.{filter, find, list_all, list_any, Contains}
+use Rattle.mf_set.specs.Numbers.{has, IsAscendingFrom, IsBelow, with_number, without_number, union, meet, is_subset}
 
 -- a number of an ascending list is not below its start
 pub has_from_low : (low : ℕ) (xs : List ℕ) (n : ℕ) → IsAscendingFrom low xs → has xs n ≡ true → low ≤ n
@@ -155,3 +155,35 @@ find_least p low (x ∷ xs) k up h passes least =
             let above : suc x ≤ k = has_from_low (suc x) xs k up.1 e in
             rw (least x (omega arith) (has_first x xs)) (find_least p (suc x) xs k up.1 e passes (λ n l i. least n l (or_right (eqb x n) (has xs n) i))))
         (or_cases (eqb x k) (has xs k) h)
+
+-- ---- each number of one list is in another
+pub is_subset-members : (xs ys : List ℕ) → is_subset xs ys ≡ true → (n : ℕ) → has xs n ≡ true → has ys n ≡ true
+is_subset-members [] ys h n i = absurd (false≢true i)
+is_subset-members (x ∷ xs) ys h n i =
+    let both = and_parts (has ys x) (is_subset xs ys) h in
+    ⊎_elim
+        (λ e. subst (λ m. has ys m ≡ true) (eqb-true x n e) both.0)
+        (λ e. is_subset-members xs ys both.1 n e)
+        (or_cases (eqb x n) (has xs n) i)
+
+pub members-is_subset : (xs ys : List ℕ) → ((n : ℕ) → has xs n ≡ true → has ys n ≡ true) → is_subset xs ys ≡ true
+members-is_subset [] ys h = refl
+members-is_subset (x ∷ xs) ys h =
+    and_from (has ys x) (is_subset xs ys) (h x (has_first x xs)) (members-is_subset xs ys (λ n i. h n (or_right (eqb x n) (has xs n) i)))
+
+-- ---- in std's word
+pub has-Contains : (xs : List ℕ) (n : ℕ) → has xs n ≡ true → Contains xs n
+has-Contains [] n h = absurd (false≢true h)
+has-Contains (x ∷ xs) n h =
+    ⊎_elim
+        (λ e. (0, omega arith, eqb-true x n e))
+        (λ e. let rest : Contains xs n = has-Contains xs n e in (suc rest.0, (let l : rest.0 < length xs = rest.1 in omega arith), rest.2))
+        (or_cases (eqb x n) (has xs n) h)
+
+has_at : (xs : List ℕ) (k n : ℕ) → k < length xs → get_or xs k n ≡ n → has xs n ≡ true
+has_at [] k n l e = absurd (omega arith)
+has_at (x ∷ xs) zero n l e = or_left (eqb x n) (has xs n) (eq-eqb x n e)
+has_at (x ∷ xs) (suc k) n l e = or_right (eqb x n) (has xs n) (has_at xs k n (omega arith) e)
+
+pub Contains-has : (xs : List ℕ) (n : ℕ) → Contains xs n → has xs n ≡ true
+Contains-has xs n h = has_at xs h.0 n h.1 h.2

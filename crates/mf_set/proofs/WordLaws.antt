@@ -9,7 +9,7 @@ use Rattle.std.proofs.lemmas.Nat.{and_le_l}
 use Rattle.std.specs.Int.{bit_at, bit_not, trailing_zeros, w64}
 use Rattle.std.specs.List.{filter, list_all, range_with_len}
 use Rattle.mf_set.specs.Numbers.{has, IsAscendingFrom}
-use Rattle.mf_set.specs.Words.{bit_of, has_bit, numbers_of, AreWords, IsLeast, IsLeastOrNone}
+use Rattle.mf_set.specs.Words.{bit_of, has_bit, numbers_of, IsLeast, IsLeastOrNone}
 use Rattle.mf_set.proofs.NumberLaws.{has-filter, IsAscendingFrom-filter, same_from_members}
 
 -- ---- one word

@@ -4,8 +4,8 @@
 --     IsAscendingFrom low xs, IsBelow room xs      the numbers ascend, the first of them at low or above; each is below room
 --     with_number xs k, without_number xs k      the ascending list with k in its place, and the list without k
 --     union xs ys, meet xs ys      the numbers of either list, and those of xs that ys has
-use Rattle.std.specs.Prelude.{◌≡◌, ℕ, zero, suc, ◌+◌, ◌*◌, ◌/◌, ◌^◌, map, ◌<◌, ◌≤◌, Bool, true, not, List, [], ◌∷◌, nat_lt, ◌==◌, if◌then◌else◌}
-use Rattle.std.specs.List.{filter, list_any, range_with_len}
+use Rattle.std.specs.Prelude.{◌≡◌, ℕ, zero, suc, ◌+◌, ◌*◌, ◌/◌, ◌^◌, map, ◌<◌, ◌≤◌, Bool, true, not, Option, List, [], ◌∷◌, nat_lt, ◌==◌, if◌then◌else◌}
+use Rattle.std.specs.List.{filter, find, list_all, list_any, range_with_len}
 
 pub record Numbers : Type 0 where
   pub items : List ℕ
@@ -35,11 +35,19 @@ union xs (y ∷ ys) = with_number (union xs ys) y
 abbrev pub meet : List ℕ → List ℕ → List ℕ
 meet xs ys = filter (has ys) xs
 
+-- whether ys has each number of xs
+abbrev pub is_subset : List ℕ → List ℕ → Bool
+is_subset xs ys = list_all (has ys) xs
+
+-- the first number of xs that ys has
+abbrev pub first_common : List ℕ → List ℕ → Option ℕ
+first_common xs ys = find (has ys) xs
+
 -- the word of n bits in which bit j is whether j passes the test
 unfoldable pub word_of : (ℕ → Bool) → ℕ → ℕ
 word_of test zero = 0
 word_of test (suc n) = (if test n then 2 ^ n else 0) + word_of test n
 
--- the words of 64 bits that a set of this room is kept in: the number n has the bit n % 64 of the word n / 64
+-- the count words of 64 bits that have these numbers: the number n is the bit n % 64 of the word n / 64
 unfoldable pub words_of : ℕ → List ℕ → List ℕ
-words_of room xs = map (λ i. word_of (λ j. has xs (64 * i + j)) 64) (range_with_len 0 ((room + 63) / 64))
+words_of count xs = map (λ i. word_of (λ j. has xs (64 * i + j)) 64) (range_with_len 0 count)

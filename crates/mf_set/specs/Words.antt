@@ -15,10 +15,10 @@ has_bit ws n = bit_of (slice_index ws (n / 64)) (n % 64)
 unfoldable pub numbers_of : List ℕ → List ℕ
 numbers_of ws = filter (has_bit ws) (range_with_len 0 (64 * length ws))
 
--- the words are as many as a room takes, of 64 bits each, and have no bit at the room or above
+-- the words are as many as a room takes, and have no bit at the room or above
 pub record AreWords (room : ℕ) (ws : List ℕ) : Type 0 where
+  pub fits : room < 2 ^ 64
   pub count : length ws ≡ (room + 63) / 64
-  pub fit : (k : ℕ) → slice_index ws k < 2 ^ 64
   pub below : (n : ℕ) → has_bit ws n ≡ true → n < room
 
 -- k is the least number that passes the test

@@ -1,11 +1,14 @@
 // Sets of numbers in words of 64 bits: the number n has the bit n % 64 of the word n / 64.
-ghost use Rattle.std.specs.Prelude.{◌≡◌, ℕ, ◌+◌, ◌-◌, ◌*◌, ◌/◌, ◌%◌, ◌^◌, ◌<◌, ◌≤◌, ◌&&◌, ◌||◌, ◌==◌, ◌↔◌, not, true, false, length, reverse, slice_index, count_ones, nat_le, IsTrue};
-ghost use Rattle.std.specs.List.{list_all, sum_by};
+ghost use Rattle.std.specs.Prelude.{◌≡◌, ℕ, ◌+◌, ◌-◌, ◌*◌, ◌/◌, ◌%◌, ◌^◌, ◌<◌, ◌≤◌, ◌&&◌, ◌||◌, ◌==◌, ◌↔◌, not, true, [], length, reverse, slice_index, count_ones, nat_le, IsTrue};
+ghost use Rattle.std.specs.List.{fold, sum_by};
 ghost use Rattle.std.specs.Ordering.{nat_cmp};
 ghost use Rattle.std.specs.Cmp.Lexicographic.{slice_cmp};
+ghost use Rattle.std.specs.Hash as fed;
+ghost use Rattle.mf_set.specs.Numbers.{words_of};
 ghost use Rattle.mf_set.specs.Words.{bit_of, has_bit, numbers_of, IsLeastOrNone};
 
 use std::cmp::Ordering;
+use std::hash::{Hash, Hasher};
 
 // The bits of a word.
 const WORD_BITS: usize = 64;
@@ -38,7 +41,7 @@ pub fn contains(words: &[u64], number: usize) -> bool
 }
 
 pub fn is_empty(words: &[u64]) -> bool
-    ensures { result ≡ list_all (λ word. word == 0) words.now }
+    ensures { IsTrue result ↔ (numbers_of words.now ≡ []) }
 {
     words.iter().all(|word| *word == 0)
 }
@@ -111,11 +114,26 @@ pub fn next_from(words: &[u64], from: usize) -> Option<usize>
     None
 }
 
-pub fn count(words: &[u64]) -> usize
+// The set bits of all words.
+fn count_bits(words: &[u64]) -> usize
     requires { sum_by count_ones words.now < 2 ^ 64 }
     ensures { result ≡ sum_by count_ones words.now }
 {
     words.iter().map(|word| word.count_ones() as usize).sum()
+}
+
+pub fn count(words: &[u64]) -> usize
+    requires { length (numbers_of words.now) < 2 ^ 64 }
+    ensures { result ≡ length (numbers_of words.now) }
+{
+    count_bits(words)
+}
+
+pub fn is_equal(words: &[u64], other: &[u64]) -> bool
+    requires { length words.now ≡ length other.now }
+    ensures { IsTrue result ↔ (numbers_of words.now ≡ numbers_of other.now) }
+{
+    words == other
 }
 
 // Compares by the greatest number that is in one of the sets and not in the other.
@@ -130,4 +148,11 @@ pub fn compare(words: &[u64], other: &[u64]) -> Ordering
         }
     }
     Ordering::Equal
+}
+
+// Feeds a hasher the words.
+pub fn hash<H: Hasher>(words: &[u64], state: &mut H)
+    ensures { state.new ≡ fold H.write state.old (fed.slice fed.u64 (words_of (length words.now) (numbers_of words.now))) }
+{
+    words.hash(state);
 }
