@@ -1,6 +1,6 @@
 -- Laws of sets that are seen as ascending lists: two such lists with the same members are equal, and what each call leaves has the members that its name says.
-use Rattle.std.proofs.Common.{◌≡◌, ◌≢◌, ℕ, zero, suc, ◌+◌, ◌<◌, ◌≤◌, Bool, true, false, not, cond, ◌&&◌, ◌||◌, ◌⊎◌, Some, None, inl, inr, ⊎_elim, List, [], ◌∷◌, ◌++◌, length, get_or, eqb, ltb, refl, sym, ap, ◌∙◌, subst, arith, rules}
-use Rattle.std.proofs.lemmas.Bool.{true≢false, false≢true, eqb-true, eqb-false, eq-eqb, ne_eqb, ltb-true, ltb-false, lt-ltb, le-ltb, or_cases, or_parts, or_from, and_parts, and_from, cases_Bool, cases_eq, cases_order, or_left, or_right}
+use Rattle.std.proofs.Common.{◌≡◌, ◌≢◌, ℕ, zero, suc, ◌+◌, ◌<◌, ◌≤◌, Bool, true, false, not, cond, ◌&&◌, ◌||◌, ◌⊎◌, Some, None, inl, inr, ⊎_elim, List, [], ◌∷◌, ◌++◌, length, get_or, eqb, ltb, leb, refl, sym, ap, ◌∙◌, subst, arith, rules}
+use Rattle.std.proofs.lemmas.Bool.{true≢false, false≢true, eqb-true, eqb-false, eq-eqb, ne_eqb, ltb-true, ltb-false, lt-ltb, le-ltb, le-leb, lt-leb, leb-true, leb-false, or_cases, or_parts, or_from, and_parts, and_from, cases_Bool, cases_eq, cases_order, or_left, or_right}
 use Rattle.std.specs.List.{filter, find, list_all, list_any, Contains}
 use Rattle.mf_set.specs.Numbers.{has, IsAscendingFrom, IsBelow, with_number, without_number, union, meet, is_subset}
 
@@ -187,3 +187,60 @@ has_at (x ∷ xs) (suc k) n l e = or_right (eqb x n) (has xs n) (has_at xs k n (
 
 pub Contains-has : (xs : List ℕ) (n : ℕ) → Contains xs n → has xs n ≡ true
 Contains-has xs n h = has_at xs h.0 n h.1 h.2
+
+-- ---- the numbers from one on
+pub filter_from-all : (from low : ℕ) (xs : List ℕ) → IsAscendingFrom low xs → from ≤ low → filter (leb from) xs ≡ xs
+filter_from-all from low [] up l = refl
+filter_from-all from low (x ∷ xs) up l =
+    rw (le-leb from x (omega (arith, up.0))) (ap (λ ys. x ∷ ys) (filter_from-all from (suc x) xs up.1 (omega (arith, up.0))))
+
+pub filter_from-zero : (xs : List ℕ) → filter (leb 0) xs ≡ xs
+filter_from-zero [] = refl
+filter_from-zero (x ∷ xs) = rw (le-leb 0 x (omega arith)) (ap (λ ys. x ∷ ys) (filter_from-zero xs))
+
+pub find_from-at_least : (from : ℕ) (xs : List ℕ) (n : ℕ) → find (leb from) xs ≡ Some n → from ≤ n
+find_from-at_least from [] n h = absurd (cc)
+find_from-at_least from (x ∷ xs) n h =
+    ⊎_elim
+        (λ e. let same : Some x ≡ Some n = subst (λ b. cond b (Some x) (find (leb from) xs) ≡ Some n) e h in let is : x ≡ n = cc in let l : from ≤ x = leb-true from x e in omega arith)
+        (λ e. find_from-at_least from xs n (subst (λ b. cond b (Some x) (find (leb from) xs) ≡ Some n) e h))
+        (cases_Bool (leb from x))
+
+pub find_has : (p : ℕ → Bool) (xs : List ℕ) (n : ℕ) → find p xs ≡ Some n → has xs n ≡ true
+find_has p [] n h = absurd (cc)
+find_has p (x ∷ xs) n h =
+    ⊎_elim
+        (λ e. let same : Some x ≡ Some n = subst (λ b. cond b (Some x) (find p xs) ≡ Some n) e h in let is : x ≡ n = cc in or_left (eqb x n) (has xs n) (eq-eqb x n is))
+        (λ e. or_right (eqb x n) (has xs n) (find_has p xs n (subst (λ b. cond b (Some x) (find p xs) ≡ Some n) e h)))
+        (cases_Bool (p x))
+
+pub filter_from-next : (low : ℕ) (xs : List ℕ) (from n : ℕ) → IsAscendingFrom low xs → find (leb from) xs ≡ Some n → filter (leb from) xs ≡ n ∷ filter (leb (n + 1)) xs
+filter_from-next low [] from n up h = absurd (cc)
+filter_from-next low (x ∷ xs) from n up h =
+    ⊎_elim
+        (λ e.
+            let same : Some x ≡ Some n = subst (λ b. cond b (Some x) (find (leb from) xs) ≡ Some n) e h in
+            let is : x ≡ n = cc in
+            let l : from ≤ x = leb-true from x e in
+            let past : x < n + 1 = omega arith in
+            ap (λ b. cond b (x ∷ filter (leb from) xs) (filter (leb from) xs)) e
+            ∙ ap (λ ys. x ∷ ys) (filter_from-all from (suc x) xs up.1 (omega arith) ∙ sym (filter_from-all (n + 1) (suc x) xs up.1 (omega arith)))
+            ∙ ap (λ m. m ∷ filter (leb (n + 1)) xs) is
+            ∙ ap (λ b. n ∷ cond b (x ∷ filter (leb (n + 1)) xs) (filter (leb (n + 1)) xs)) (sym (lt-leb (n + 1) x past)))
+        (λ e.
+            let h' : find (leb from) xs ≡ Some n = subst (λ b. cond b (Some x) (find (leb from) xs) ≡ Some n) e h in
+            let l : from ≤ n = find_from-at_least from xs n h' in
+            let before : x < from = leb-false from x e in
+            let past : x < n + 1 = omega arith in
+            ap (λ b. cond b (x ∷ filter (leb from) xs) (filter (leb from) xs)) e
+            ∙ filter_from-next (suc x) xs from n up.1 h'
+            ∙ ap (λ b. n ∷ cond b (x ∷ filter (leb (n + 1)) xs) (filter (leb (n + 1)) xs)) (sym (lt-leb (n + 1) x past)))
+        (cases_Bool (leb from x))
+
+pub filter-find_none : (p : ℕ → Bool) (xs : List ℕ) → find p xs ≡ None → filter p xs ≡ []
+filter-find_none p [] h = refl
+filter-find_none p (x ∷ xs) h =
+    ⊎_elim
+        (λ e. let same : Some x ≡ None = subst (λ b. cond b (Some x) (find p xs) ≡ None) e h in absurd (cc))
+        (λ e. ap (λ b. cond b (x ∷ filter p xs) (filter p xs)) e ∙ filter-find_none p xs (subst (λ b. cond b (Some x) (find p xs) ≡ None) e h))
+        (cases_Bool (p x))

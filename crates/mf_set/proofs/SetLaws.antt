@@ -2,12 +2,13 @@
 use Rattle.std.proofs.Common.{◌≡◌, ◌↔◌, ℕ, zero, suc, Some, None, ◌+◌, ◌*◌, ◌/◌, ◌^◌, ◌<◌, ◌≤◌, Bool, true, false, not, ◌&&◌, ◌||◌, Option, ⊎_elim, List, [], ◌∷◌, ◌++◌, length, get_or, take, drop, replicate, eqb, leb, refl, sym, ap, ◌∙◌, subst, arith}
 use Rattle.std.proofs.lemmas.Bool.{false≢true, eqb-true, or_cases, and_parts, cases_lt}
 use Rattle.std.proofs.lemmas.List.{take_at, get_or-replicate, get_or_past, length-replicate}
-use Rattle.std.specs.List.{find, list_all}
+use Rattle.std.specs.List.{filter, find}
+use Rattle.std.specs.Prelude.{IfSome}
 use Rattle.mf_set.specs.Numbers.{Numbers, has, IsAscendingFrom, IsBelow, with_number, without_number, union, meet, is_subset, first_common}
 use Rattle.mf_set.specs.Words.{bit_of, has_bit, numbers_of, AreWords, IsLeast, IsLeastOrNone}
-use Rattle.mf_set.proofs.NumberLaws.{has-with_number, has-without_number, has-union, has-meet, has_first, IsAscendingFrom-with_number, IsAscendingFrom-filter, IsAscendingFrom-union, find_none, find_least, is_subset-members, members-is_subset}
+use Rattle.mf_set.proofs.NumberLaws.{has-with_number, has-without_number, has-union, has-meet, has_first, IsAscendingFrom-with_number, IsAscendingFrom-filter, IsAscendingFrom-union, find_none, find_least, is_subset-members, members-is_subset, find_from-at_least, find_has, filter_from-next}
 use Rattle.std.specs.Cmp.{both_ways}
-use Rattle.mf_set.proofs.WordLaws.{has-numbers_of, IsAscendingFrom-numbers_of, numbers_of_is, has_no_bit, all_zero-from_bits}
+use Rattle.mf_set.proofs.WordLaws.{has-numbers_of, IsAscendingFrom-numbers_of, numbers_of_is, has_no_bit, zero_from_no_bit}
 use Rattle.mf_set.proofs.CountLaws.{length_within}
 
 abbrev pub set_of : ℕ → List ℕ → Numbers
@@ -58,11 +59,7 @@ AreWords-meet room us vs ws h e bits = kept room us ws h e (λ n is. h.below n (
 
 -- ---- the empty set
 no_bit : (count n : ℕ) → has_bit (replicate count 0) n ≡ false
-no_bit count n = has_no_bit (replicate count 0) (zeros count) n
-  where
-    zeros : (m : ℕ) → list_all (λ w. eqb w 0) (replicate m 0) ≡ true
-    zeros zero = refl
-    zeros (suc m) = zeros m
+no_bit count n = has_no_bit (replicate count 0) (λ k l. get_or-replicate count k 0 0 (omega (arith, length-replicate {A = ℕ} count 0))) n
 
 pub AreWords-none : (room count : ℕ) → room < 2 ^ 64 → count ≡ (room + 63) / 64 → AreWords room (replicate count 0)
 AreWords-none room count l e = record {
@@ -75,11 +72,11 @@ pub numbers_of-none : (count : ℕ) → numbers_of (replicate count 0) ≡ []
 numbers_of-none count = numbers_of_is (replicate count 0) [] tt (no_bit count)
 
 -- ---- answers
-pub no_numbers : (ws : List ℕ) → list_all (λ w. eqb w 0) ws ≡ true → numbers_of ws ≡ []
+pub no_numbers : (ws : List ℕ) → ((k : ℕ) → k < length ws → get_or ws k 0 ≡ 0) → numbers_of ws ≡ []
 no_numbers ws h = numbers_of_is ws [] tt (has_no_bit ws h)
 
-pub no_words : (ws : List ℕ) → ((k : ℕ) → get_or ws k 0 < 2 ^ 64) → numbers_of ws ≡ [] → list_all (λ w. eqb w 0) ws ≡ true
-no_words ws fit none = all_zero-from_bits ws fit (λ n. sym (has-numbers_of ws n) ∙ ap (λ xs. has xs n) none)
+pub zero_from_no_numbers : (ws : List ℕ) (k : ℕ) → get_or ws k 0 < 2 ^ 64 → numbers_of ws ≡ [] → get_or ws k 0 ≡ 0
+zero_from_no_numbers ws k fits none = zero_from_no_bit ws k fits (λ n. sym (has-numbers_of ws n) ∙ ap (λ xs. has xs n) none)
 
 pub numbers_of-below : (room : ℕ) (ws : List ℕ) → AreWords room ws → IsBelow room (numbers_of ws)
 numbers_of-below room ws h n is = h.below n (sym (has-numbers_of ws n) ∙ is)
@@ -122,3 +119,14 @@ is_subset_is us vs r h =
 -- the bits of a set's words are numbers of 64 bits
 pub bits_fit : (room : ℕ) (ws : List ℕ) → AreWords room ws → 64 * length ws ≤ 2 ^ 64
 bits_fit room ws h = omega (arith, h.fits, h.count)
+
+pub next_within : (room : ℕ) (ws : List ℕ) (s : Numbers) (from : ℕ) (r : Option ℕ) → AreWords room ws → set_of room ws ≡ s → r ≡ find (leb from) s.items → IfSome r (λ n. (from ≤ n) × (n < s.room) × (n + 1 < 2 ^ 64))
+next_within room ws s from None h view e = tt
+next_within room ws s from (Some n) h view e =
+    let inside : n < s.room = subst (λ (t : Numbers). IsBelow t.room t.items) view (numbers_of-below room ws h) n (find_has (leb from) s.items n (sym e)) in
+    (find_from-at_least from s.items n (sym e), inside, omega (arith, h.fits, ap (λ (t : Numbers). t.room) view))
+
+pub next_rest : (room : ℕ) (ws : List ℕ) (s : Numbers) (from : ℕ) (r : Option ℕ) → set_of room ws ≡ s → r ≡ find (leb from) s.items → IfSome r (λ n. filter (leb from) s.items ≡ n ∷ filter (leb (n + 1)) s.items)
+next_rest room ws s from None view e = tt
+next_rest room ws s from (Some n) view e =
+    filter_from-next 0 s.items from n (subst (λ (t : Numbers). IsAscendingFrom 0 t.items) view (IsAscendingFrom-numbers_of ws)) (sym e)

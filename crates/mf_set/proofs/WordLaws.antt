@@ -7,7 +7,7 @@ use Rattle.std.proofs.lemmas.Nat.Bits.{bit_at_and, bit_at_or, bit_at-zero, bit_a
 use Rattle.std.specs.Prelude.{bit_and, bit_or}
 use Rattle.std.proofs.lemmas.Nat.{and_le_l}
 use Rattle.std.specs.Int.{bit_at, bit_not, trailing_zeros, w64}
-use Rattle.std.specs.List.{filter, list_all, range_with_len}
+use Rattle.std.specs.List.{filter, range_with_len}
 use Rattle.mf_set.specs.Numbers.{has, IsAscendingFrom}
 use Rattle.mf_set.specs.Words.{bit_of, has_bit, numbers_of, IsLeast, IsLeastOrNone}
 use Rattle.mf_set.proofs.NumberLaws.{has-filter, IsAscendingFrom-filter, same_from_members}
@@ -259,14 +259,11 @@ bit_of-from w from j l =
         (cases_lt j (from % 64))
 
 -- ---- no bit at all
-no_words : (ws : List ℕ) → list_all (λ w. eqb w 0) ws ≡ true → (k : ℕ) → get_or ws k 0 ≡ 0
-no_words [] h k = refl
-no_words (w ∷ ws) h zero = eqb-true w 0 (and_parts (eqb w 0) (list_all (λ v. eqb v 0) ws) h).0
-no_words (w ∷ ws) h (suc k) = no_words ws (and_parts (eqb w 0) (list_all (λ v. eqb v 0) ws) h).1 k
-
-pub has_no_bit : (ws : List ℕ) → list_all (λ w. eqb w 0) ws ≡ true → (n : ℕ) → has_bit ws n ≡ false
+pub has_no_bit : (ws : List ℕ) → ((k : ℕ) → k < length ws → get_or ws k 0 ≡ 0) → (n : ℕ) → has_bit ws n ≡ false
 unfolding has_bit
-has_no_bit ws h n = ap (λ w. bit_of w (n % 64)) (no_words ws h (n / 64)) ∙ zero_word (n % 64)
+has_no_bit ws h n =
+    ap (λ w. bit_of w (n % 64)) (⊎_elim (λ l. h (n / 64) l) (λ g. get_or_past ws (n / 64) 0 g) (cases_lt (n / 64) (length ws)))
+    ∙ zero_word (n % 64)
 
 zero_from_bits : (w : ℕ) → w < 2 ^ 64 → ((j : ℕ) → j < 64 → bit_of w j ≡ false) → w ≡ 0
 zero_from_bits w fits none =
@@ -277,12 +274,8 @@ zero_from_bits w fits none =
             absurd (false≢true (sym (none (trailing_zeros w64 w) low.0) ∙ ap (λ v. eqb v 1) low.1)))
         (cases_eq w 0)
 
-all_zero : (ws : List ℕ) → ((k : ℕ) → k < length ws → get_or ws k 0 ≡ 0) → list_all (λ w. eqb w 0) ws ≡ true
-all_zero [] h = refl
-all_zero (w ∷ ws) h = and_from (eqb w 0) (list_all (λ v. eqb v 0) ws) (eq-eqb w 0 (h 0 (omega arith))) (all_zero ws (λ k l. h (suc k) (omega arith)))
-
-pub all_zero-from_bits : (ws : List ℕ) → ((k : ℕ) → get_or ws k 0 < 2 ^ 64) → ((n : ℕ) → has_bit ws n ≡ false) → list_all (λ w. eqb w 0) ws ≡ true
-all_zero-from_bits ws fit none = all_zero ws (λ k l. zero_from_bits (get_or ws k 0) (fit k) (λ j s. sym (has_bit_at ws k j s) ∙ none (64 * k + j)))
+pub zero_from_no_bit : (ws : List ℕ) (k : ℕ) → get_or ws k 0 < 2 ^ 64 → ((n : ℕ) → has_bit ws n ≡ false) → get_or ws k 0 ≡ 0
+zero_from_no_bit ws k fits none = zero_from_bits (get_or ws k 0) fits (λ j l. sym (has_bit_at ws k j l) ∙ none (64 * k + j))
 
 pub from_here : (ws : List ℕ) (i w from : ℕ) → ((j : ℕ) → j < 64 → bit_of w j ≡ (leb from (64 * i + j) && bit_of (get_or ws i 0) j)) → (j : ℕ) → j < 64 → (leb from (64 * i + j) && has_bit ws (64 * i + j)) ≡ bit_of w j
 from_here ws i w from h j l = ap (λ b. leb from (64 * i + j) && b) (has_bit_at ws i j l) ∙ sym (h j l)

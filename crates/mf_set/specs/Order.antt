@@ -9,6 +9,7 @@ use Rattle.std.specs.declared.cmp.Ordering.{Ordering}
 use Rattle.std.specs.Ordering.{on, then_cmp, eq_of_both, eq_by_cmp, is_eq, nat_cmp, ordering_then}
 use Rattle.std.specs.declared.cmp.Ordering.TheVariants.{Less, Equal, Greater}
 use Rattle.std.specs.Hash as fed
+use Rattle.std.specs.List.{flat_map}
 use Rattle.std.proofs.Common.{sym, ap, ◌∙◌, eqb-true, eq-eqb}
 use Rattle.std.proofs.lemmas.Bool.{and_parts, and_from}
 use Rattle.std.proofs.lemmas.List.{reverse-reverse}
@@ -21,7 +22,7 @@ abbrev pub numbers_cmp : Numbers → Numbers → Ordering
 numbers_cmp = then_cmp (on (λ s. s.room) nat_cmp) (on (λ s. reverse s.items) (slice_cmp nat_cmp))
 
 abbrev pub writes_of : Numbers → List (List ℕ)
-writes_of s = fed.usize s.room ++ fed.slice fed.u64 (words_of ((s.room + 63) / 64) s.items)
+writes_of s = fed.usize s.room ++ flat_map fed.u64 (words_of ((s.room + 63) / 64) s.items)
 
 pub numbers_eq_equiv : IsEquivalence numbers_eq
 numbers_eq_equiv = and_equiv (on_equiv (λ s. s.room) nat_eq_equiv) (on_equiv (λ s. s.items) nat_list_eq_equiv)

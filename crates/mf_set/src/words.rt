@@ -1,6 +1,6 @@
 // Sets of numbers in words of 64 bits: the number n has the bit n % 64 of the word n / 64.
 ghost use Rattle.std.specs.Prelude.{◌≡◌, ℕ, ◌+◌, ◌-◌, ◌*◌, ◌/◌, ◌%◌, ◌^◌, ◌<◌, ◌≤◌, ◌&&◌, ◌||◌, ◌==◌, ◌↔◌, not, true, [], length, reverse, slice_index, count_ones, nat_le, IsTrue};
-ghost use Rattle.std.specs.List.{fold, sum_by};
+ghost use Rattle.std.specs.List.{flat_map, fold, sum_by};
 ghost use Rattle.std.specs.Ordering.{nat_cmp};
 ghost use Rattle.std.specs.Cmp.Lexicographic.{slice_cmp};
 ghost use Rattle.std.specs.Hash as fed;
@@ -43,7 +43,12 @@ pub fn contains(words: &[u64], number: usize) -> bool
 pub fn is_empty(words: &[u64]) -> bool
     ensures { IsTrue result ↔ (numbers_of words.now ≡ []) }
 {
-    words.iter().all(|word| *word == 0)
+    for word in words {
+        if *word != 0 {
+            return false;
+        }
+    }
+    true
 }
 
 pub fn union_with(words: &mut [u64], other: &[u64])
@@ -133,7 +138,12 @@ pub fn is_equal(words: &[u64], other: &[u64]) -> bool
     requires { length words.now ≡ length other.now }
     ensures { IsTrue result ↔ (numbers_of words.now ≡ numbers_of other.now) }
 {
-    words == other
+    for (i, word) in words.iter().enumerate() {
+        if *word != other[i] {
+            return false;
+        }
+    }
+    true
 }
 
 // Compares by the greatest number that is in one of the sets and not in the other.
@@ -152,7 +162,9 @@ pub fn compare(words: &[u64], other: &[u64]) -> Ordering
 
 // Feeds a hasher the words.
 pub fn hash<H: Hasher>(words: &[u64], state: &mut H)
-    ensures { state.new ≡ fold H.write state.old (fed.slice fed.u64 (words_of (length words.now) (numbers_of words.now))) }
+    ensures { state.new ≡ fold H.write state.old (flat_map fed.u64 (words_of (length words.now) (numbers_of words.now))) }
 {
-    words.hash(state);
+    for word in words {
+        word.hash(state);
+    }
 }

@@ -1,9 +1,13 @@
-use Rattle.std.proofs.Common.{◌≡◌, ℕ, ◌+◌, ◌*◌, ◌^◌, ◌<◌, ◌≤◌, Bool, true, not, ◌&&◌, ◌||◌, List, [], length, eqb, leb, refl, sym, ap, ◌∙◌, subst, arith, rules}
-use Rattle.std.specs.List.{list_all}
-use Rattle.mf_set.proofs.SetLaws.{no_numbers, no_words}
+use Rattle.std.proofs.Common.{◌≡◌, ℕ, ◌+◌, ◌-◌, ◌*◌, ◌^◌, ◌<◌, ◌≤◌, Bool, true, not, Some, None, ◌&&◌, ◌||◌, List, [], ◌∷◌, ◌++◌, length, replicate, get_or, eqb, leb, refl, sym, ap, ◌∙◌, subst, arith, rules}
+use Rattle.std.proofs.lemmas.Bool.{false≢true}
+use Rattle.mf_set.proofs.SetLaws.{no_numbers, zero_from_no_numbers}
 use Rattle.mf_set.proofs.words.is_empty.Goals as goal
 
+pub returns-then-word-ne0 : goal.returns-then-word-ne0
+returns-then-word-ne0 c =
+    ( λ h. absurd (false≢true h)
+    , λ h. absurd (c.if-word-ne0.true (zero_from_no_numbers c.args.words.now c.loop-word.word-index (c.type_inv.words c.loop-word.word-index).fits h))
+    )
+
 pub returns : goal.returns
-returns c =
-    let is : c.all.result ≡ list_all (λ w. eqb w 0) c.args.words.now = search rules in
-    (λ h. no_numbers c.args.words.now (sym is ∙ h), λ h. is ∙ no_words c.args.words.now (λ k. (c.type_inv.words k).fits) h)
+returns c = (λ _. no_numbers c.args.words.now (λ k l. c.loop-word.invariant k (omega arith)), λ _. refl)

@@ -1,12 +1,15 @@
-use Rattle.std.proofs.Common.{rules, ◌≡◌, ◌<◌, ◌≤◌, ◌↔◌, [], length, nat_le, IsTrue, IfOk, ℕ, ◌+◌, ◌-◌, ◌*◌, ◌/◌, ◌%◌, Bool, true, false, nat_eq, nat_lt, List, ◌∷◌, ◌++◌, slice_index_or, slice_set, bit_and, bit_or, Fits, w8, w32, w64, Bor, MutBor}
-use Rattle.std.specs.List.{find, Contains}
-use Rattle.mf_set.specs.Numbers.{has, IsAscendingFrom, IsBelow, with_number, without_number, union, meet, is_subset, first_common}
+use Rattle.std.proofs.Common.{◌≡◌, ℕ, ◌+◌, ◌-◌, ◌*◌, ◌^◌, ◌<◌, ◌≤◌, Bool, true, not, Some, None, ◌&&◌, ◌||◌, List, [], ◌∷◌, ◌++◌, length, replicate, get_or, eqb, leb, refl, sym, ap, ◌∙◌, subst, arith, rules}
+use Rattle.mf_set.specs.Numbers.{Numbers, has, IsAscendingFrom, IsBelow, with_number, without_number, union, meet, is_subset, first_common}
+use Rattle.mf_set.specs.Words.{has_bit, numbers_of, AreWords, IsLeastOrNone}
+use Rattle.mf_set.proofs.SetLaws.{AreWords-none, numbers_of-none}
 use Rattle.mf_set.proofs.bit_set.BitSet.with_room.Goals as goal
 
--- src/bit_set.rt:40:9
 pub invariant_of-result : goal.invariant_of-result
-invariant_of-result c = ?
+invariant_of-result c =
+    let items : c.in_ok-words.words.items ≡ replicate c.div_ceil.result 0 = search rules in
+    subst (AreWords c.args.n) (sym items) (AreWords-none c.args.n c.div_ceil.result c.ranges.n.fits (search rules))
 
--- src/bit_set.rt:36:5
 pub returns : goal.returns
-returns c = ?
+returns c =
+    let items : c.in_ok-words.words.items ≡ replicate c.div_ceil.result 0 = search rules in
+    ap (λ xs. let s : Numbers = record { items = xs; room = c.args.n } in s) (ap numbers_of items ∙ numbers_of-none c.div_ceil.result)
