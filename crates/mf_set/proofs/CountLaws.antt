@@ -1,5 +1,5 @@
 -- How many numbers words have: the sum of the counts of their set bits.
-use Rattle.std.proofs.Common.{◌≡◌, ℕ, zero, suc, ◌+◌, ◌*◌, ◌/◌, ◌%◌, ◌^◌, ◌<◌, ◌≤◌, Bool, true, false, cond, List, [], ◌∷◌, length, get_or, eqb, refl, sym, ap, ◌∙◌, subst, arith}
+use Rattle.std.proofs.Common.{◌≡◌, ℕ, zero, suc, ◌+◌, ◌*◌, ◌/◌, ◌%◌, ◌^◌, ◌<◌, ◌≤◌, Bool, true, false, cond, List, [], ◌∷◌, length, get_or, eqb, refl, sym, ap, ◌∙◌, arith}
 use Rattle.std.proofs.Math.Nat.{pow-suc}
 use Rattle.std.proofs.lemmas.Bool.{or_right}
 use Rattle.std.proofs.lemmas.List.Sums.{sum_by-cons}
@@ -7,7 +7,6 @@ use Rattle.std.proofs.lemmas.Nat.{ones_le_self}
 use Rattle.std.proofs.lemmas.Nat.Bits.{bit_at-suc, bit_at_lowest}
 use Rattle.std.specs.Prelude.{count_ones}
 use Rattle.std.specs.Int.Count.{ones_step}
-use Rattle.std.specs.Int.{bit_at}
 use Rattle.std.specs.List.{filter, range_with_len, sum_by}
 use Rattle.mf_set.specs.Numbers.{has, IsAscendingFrom}
 use Rattle.mf_set.specs.Words.{bit_of, has_bit, numbers_of}
@@ -103,6 +102,7 @@ passing-words (w ∷ ws) fit =
         let e : 0 + j ≡ 64 * 0 + j = omega arith in
         let f : j ≡ 0 + j = omega arith in
         ap (has_bit (w ∷ ws)) e ∙ has_bit_at (w ∷ ws) 0 j l ∙ ap (bit_of w) f
+
     rest : (j : ℕ) → has_bit (w ∷ ws) (0 + 64 + j) ≡ has_bit ws (0 + j)
     rest j =
         let e : 0 + 64 + j ≡ 64 + j = omega arith in

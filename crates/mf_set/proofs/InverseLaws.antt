@@ -1,12 +1,12 @@
 -- The words of a set, from its numbers.
-use Rattle.std.proofs.Common.{◌≡◌, ℕ, zero, suc, ◌+◌, ◌*◌, ◌/◌, ◌%◌, ◌^◌, ◌<◌, ◌≤◌, Bool, true, false, cond, List, length, get_or, eqb, refl, sym, ap, ◌∙◌, arith}
+use Rattle.std.proofs.Common.{◌≡◌, ℕ, zero, suc, ◌+◌, ◌*◌, ◌%◌, ◌^◌, ◌<◌, Bool, true, false, cond, List, length, get_or, eqb, refl, sym, ap, ◌∙◌, arith}
 use Rattle.std.proofs.lemmas.Nat.{mod-pow-add}
 use Rattle.std.proofs.lemmas.Nat.Bits.{bit_at-lt}
 use Rattle.std.proofs.lemmas.List.FromFn.{fill_by_all}
 use Rattle.std.proofs.Math.Nat.{mod-eq_of_lt}
 use Rattle.std.specs.Int.{bit_at}
 use Rattle.mf_set.specs.Numbers.{has, word_of, words_of}
-use Rattle.mf_set.specs.Words.{bit_of, has_bit, numbers_of}
+use Rattle.mf_set.specs.Words.{bit_of, numbers_of}
 use Rattle.mf_set.proofs.WordLaws.{has_bit_at, has-numbers_of}
 
 one_is : (v : ℕ) → v < 2 → cond (eqb v 1) 1 0 ≡ v
@@ -34,9 +34,9 @@ pub words_of-numbers : (ws : List ℕ) → ((k : ℕ) → get_or ws k 0 < 2 ^ 64
 unfolding words_of
 words_of-numbers ws fit =
     sym (fill_by_all (λ i. word_of (λ j. has (numbers_of ws) (64 * i + j)) 64) ws (length ws) 0 refl
-        (λ k l.
-            sym (word_of-bits (λ j. has (numbers_of ws) (64 * k + j)) (get_or ws k 0) 64 (λ j s. has-numbers_of ws (64 * k + j) ∙ has_bit_at ws k j s)
-                ∙ mod-eq_of_lt (fit k))))
+    (λ k l.
+    sym (word_of-bits (λ j. has (numbers_of ws) (64 * k + j)) (get_or ws k 0) 64 (λ j s. has-numbers_of ws (64 * k + j) ∙ has_bit_at ws k j s)
+    ∙ mod-eq_of_lt (fit k))))
 
 -- words of the same numbers are the same
 pub same_words : (us vs : List ℕ) → ((k : ℕ) → get_or us k 0 < 2 ^ 64) → ((k : ℕ) → get_or vs k 0 < 2 ^ 64) → length us ≡ length vs → numbers_of us ≡ numbers_of vs → us ≡ vs

@@ -1,25 +1,25 @@
 -- Laws of sets that are seen as ascending lists: two such lists with the same members are equal, and what each call leaves has the members that its name says.
-use Rattle.std.proofs.Common.{◌≡◌, ◌≢◌, ℕ, zero, suc, ◌+◌, ◌<◌, ◌≤◌, Bool, true, false, not, cond, ◌&&◌, ◌||◌, ◌⊎◌, Some, None, inl, inr, ⊎_elim, List, [], ◌∷◌, ◌++◌, length, get_or, eqb, ltb, leb, refl, sym, ap, ◌∙◌, subst, arith, rules}
-use Rattle.std.proofs.lemmas.Bool.{true≢false, false≢true, eqb-true, eqb-false, eq-eqb, ne_eqb, ltb-true, ltb-false, lt-ltb, le-ltb, le-leb, lt-leb, leb-true, leb-false, or_cases, or_parts, or_from, and_parts, and_from, cases_Bool, cases_eq, cases_order, or_left, or_right}
-use Rattle.std.specs.List.{filter, find, list_all, list_any, Contains}
-use Rattle.mf_set.specs.Numbers.{has, IsAscendingFrom, IsBelow, with_number, without_number, union, meet, is_subset}
+use Rattle.std.proofs.Common.{◌≡◌, ◌≢◌, ℕ, zero, suc, ◌+◌, ◌<◌, ◌≤◌, Bool, true, false, not, cond, ◌&&◌, ◌||◌, Some, None, ⊎_elim, List, [], ◌∷◌, length, get_or, eqb, ltb, leb, refl, sym, ap, ◌∙◌, subst, arith}
+use Rattle.std.proofs.lemmas.Bool.{true≢false, false≢true, eqb-true, eqb-false, eq-eqb, ne_eqb, ltb-true, ltb-false, le-leb, lt-leb, leb-true, leb-false, or_cases, and_parts, and_from, cases_Bool, cases_eq, or_left, or_right}
+use Rattle.std.specs.List.{filter, find, Contains}
+use Rattle.mf_set.specs.Numbers.{has, IsAscendingFrom, with_number, without_number, union, meet, is_subset}
 
 -- a number of an ascending list is not below its start
 pub has_from_low : (low : ℕ) (xs : List ℕ) (n : ℕ) → IsAscendingFrom low xs → has xs n ≡ true → low ≤ n
 has_from_low low [] n up h = absurd (false≢true h)
 has_from_low low (x ∷ xs) n up h =
     ⊎_elim
-        (λ e. let same : x ≡ n = eqb-true x n e in omega (arith, up.0))
-        (λ e. let above : suc x ≤ n = has_from_low (suc x) xs n up.1 e in omega (arith, up.0))
-        (or_cases (eqb x n) (has xs n) h)
+    (λ e. let same : x ≡ n = eqb-true x n e in omega (arith, up.0))
+    (λ e. let above : suc x ≤ n = has_from_low (suc x) xs n up.1 e in omega (arith, up.0))
+    (or_cases (eqb x n) (has xs n) h)
 
 -- what is below the start is not in the list
 pub has_not_below : (low : ℕ) (xs : List ℕ) (n : ℕ) → IsAscendingFrom low xs → n < low → has xs n ≡ false
 has_not_below low xs n up small =
     ⊎_elim
-        (λ e. let above : low ≤ n = has_from_low low xs n up e in absurd (omega arith))
-        (λ e. e)
-        (cases_Bool (has xs n))
+    (λ e. let above : low ≤ n = has_from_low low xs n up e in absurd (omega arith))
+    (λ e. e)
+    (cases_Bool (has xs n))
 
 pub has_first : (x : ℕ) (xs : List ℕ) → has (x ∷ xs) x ≡ true
 has_first x xs = or_left (eqb x x) (has xs x) (eq-eqb x x refl)
@@ -28,9 +28,9 @@ has_first x xs = or_left (eqb x x) (has xs x) (eq-eqb x x refl)
 has_rest : (x : ℕ) (xs ys : List ℕ) → IsAscendingFrom (suc x) xs → IsAscendingFrom (suc x) ys → ((n : ℕ) → has (x ∷ xs) n ≡ has (x ∷ ys) n) → (n : ℕ) → has xs n ≡ has ys n
 has_rest x xs ys u v h n =
     ⊎_elim
-        (λ e. let small : n < suc x = omega arith in has_not_below (suc x) xs n u small ∙ sym (has_not_below (suc x) ys n v small))
-        (λ e. subst (λ b. (b || has xs n) ≡ (b || has ys n)) (ne_eqb x n e) (h n))
-        (cases_eq x n)
+    (λ e. let small : n < suc x = omega arith in has_not_below (suc x) xs n u small ∙ sym (has_not_below (suc x) ys n v small))
+    (λ e. subst (λ b. (b || has xs n) ≡ (b || has ys n)) (ne_eqb x n e) (h n))
+    (cases_eq x n)
 
 first_upto : (x y : ℕ) (ys : List ℕ) → IsAscendingFrom (suc y) ys → has (y ∷ ys) x ≡ true → y ≤ x
 first_upto x y ys v h = has_from_low y (y ∷ ys) x (omega arith, v) h
@@ -52,15 +52,16 @@ same_from_members low (x ∷ xs) (y ∷ ys) u v h =
 choose : (p : ℕ → Bool) (x n : ℕ) (r : Bool) (xs : List ℕ) → has xs n ≡ (r && p n) → has (cond (p x) (x ∷ xs) xs) n ≡ ((eqb x n || r) && p n)
 choose p x n r xs h =
     ⊎_elim
-        (λ e. subst (λ m. has (cond (p x) (x ∷ xs) xs) m ≡ ((eqb x m || r) && p m)) e
-            (let h' : has xs x ≡ (r && p x) = subst (λ m. has xs m ≡ (r && p m)) (sym e) h in
-             rw (eq-eqb x x refl) (elim (p x) as (λ b. has xs x ≡ (r && b) → has (cond b (x ∷ xs) xs) x ≡ b) [ true ↦ λ _. has_first x xs | false ↦ λ k. k ∙ and_false r ] h')))
-        (λ e. rw (ne_eqb x n e) (skip e))
-        (cases_eq x n)
+    (λ e. subst (λ m. has (cond (p x) (x ∷ xs) xs) m ≡ ((eqb x m || r) && p m)) e
+    (let h' : has xs x ≡ (r && p x) = subst (λ m. has xs m ≡ (r && p m)) (sym e) h in
+    rw (eq-eqb x x refl) (elim (p x) as (λ b. has xs x ≡ (r && b) → has (cond b (x ∷ xs) xs) x ≡ b) [ true ↦ λ _. has_first x xs | false ↦ λ k. k ∙ and_false r ] h')))
+    (λ e. rw (ne_eqb x n e) (skip e))
+    (cases_eq x n)
   where
     and_false : (b : Bool) → (b && false) ≡ false
     and_false true = refl
     and_false false = refl
+
     skip : x ≢ n → has (cond (p x) (x ∷ xs) xs) n ≡ (r && p n)
     skip e = elim (p x) as (λ b. has (cond b (x ∷ xs) xs) n ≡ (r && p n)) [ true ↦ ap (λ b. b || has xs n) (ne_eqb x n e) ∙ h | false ↦ h ]
 
@@ -150,11 +151,11 @@ pub find_least : (p : ℕ → Bool) (low : ℕ) (xs : List ℕ) (k : ℕ) → Is
 find_least p low [] k up h passes least = absurd (false≢true h)
 find_least p low (x ∷ xs) k up h passes least =
     ⊎_elim
-        (λ e. let same : x ≡ k = eqb-true x k e in subst (λ m. cond (p x) (Some x) (find p xs) ≡ Some m) same (rw (ap p same ∙ passes) refl))
-        (λ e.
-            let above : suc x ≤ k = has_from_low (suc x) xs k up.1 e in
-            rw (least x (omega arith) (has_first x xs)) (find_least p (suc x) xs k up.1 e passes (λ n l i. least n l (or_right (eqb x n) (has xs n) i))))
-        (or_cases (eqb x k) (has xs k) h)
+    (λ e. let same : x ≡ k = eqb-true x k e in subst (λ m. cond (p x) (Some x) (find p xs) ≡ Some m) same (rw (ap p same ∙ passes) refl))
+    (λ e.
+    let above : suc x ≤ k = has_from_low (suc x) xs k up.1 e in
+    rw (least x (omega arith) (has_first x xs)) (find_least p (suc x) xs k up.1 e passes (λ n l i. least n l (or_right (eqb x n) (has xs n) i))))
+    (or_cases (eqb x k) (has xs k) h)
 
 -- ---- each number of one list is in another
 pub is_subset-members : (xs ys : List ℕ) → is_subset xs ys ≡ true → (n : ℕ) → has xs n ≡ true → has ys n ≡ true
@@ -162,9 +163,9 @@ is_subset-members [] ys h n i = absurd (false≢true i)
 is_subset-members (x ∷ xs) ys h n i =
     let both = and_parts (has ys x) (is_subset xs ys) h in
     ⊎_elim
-        (λ e. subst (λ m. has ys m ≡ true) (eqb-true x n e) both.0)
-        (λ e. is_subset-members xs ys both.1 n e)
-        (or_cases (eqb x n) (has xs n) i)
+    (λ e. subst (λ m. has ys m ≡ true) (eqb-true x n e) both.0)
+    (λ e. is_subset-members xs ys both.1 n e)
+    (or_cases (eqb x n) (has xs n) i)
 
 pub members-is_subset : (xs ys : List ℕ) → ((n : ℕ) → has xs n ≡ true → has ys n ≡ true) → is_subset xs ys ≡ true
 members-is_subset [] ys h = refl
@@ -176,9 +177,9 @@ pub has-Contains : (xs : List ℕ) (n : ℕ) → has xs n ≡ true → Contains 
 has-Contains [] n h = absurd (false≢true h)
 has-Contains (x ∷ xs) n h =
     ⊎_elim
-        (λ e. (0, omega arith, eqb-true x n e))
-        (λ e. let rest : Contains xs n = has-Contains xs n e in (suc rest.0, (let l : rest.0 < length xs = rest.1 in omega arith), rest.2))
-        (or_cases (eqb x n) (has xs n) h)
+    (λ e. (0, omega arith, eqb-true x n e))
+    (λ e. let rest : Contains xs n = has-Contains xs n e in (suc rest.0, (let l : rest.0 < length xs = rest.1 in omega arith), rest.2))
+    (or_cases (eqb x n) (has xs n) h)
 
 has_at : (xs : List ℕ) (k n : ℕ) → k < length xs → get_or xs k n ≡ n → has xs n ≡ true
 has_at [] k n l e = absurd (omega arith)
@@ -202,45 +203,45 @@ pub find_from-at_least : (from : ℕ) (xs : List ℕ) (n : ℕ) → find (leb fr
 find_from-at_least from [] n h = absurd (cc)
 find_from-at_least from (x ∷ xs) n h =
     ⊎_elim
-        (λ e. let same : Some x ≡ Some n = subst (λ b. cond b (Some x) (find (leb from) xs) ≡ Some n) e h in let is : x ≡ n = cc in let l : from ≤ x = leb-true from x e in omega arith)
-        (λ e. find_from-at_least from xs n (subst (λ b. cond b (Some x) (find (leb from) xs) ≡ Some n) e h))
-        (cases_Bool (leb from x))
+    (λ e. let same : Some x ≡ Some n = subst (λ b. cond b (Some x) (find (leb from) xs) ≡ Some n) e h in let is : x ≡ n = cc in let l : from ≤ x = leb-true from x e in omega arith)
+    (λ e. find_from-at_least from xs n (subst (λ b. cond b (Some x) (find (leb from) xs) ≡ Some n) e h))
+    (cases_Bool (leb from x))
 
 pub find_has : (p : ℕ → Bool) (xs : List ℕ) (n : ℕ) → find p xs ≡ Some n → has xs n ≡ true
 find_has p [] n h = absurd (cc)
 find_has p (x ∷ xs) n h =
     ⊎_elim
-        (λ e. let same : Some x ≡ Some n = subst (λ b. cond b (Some x) (find p xs) ≡ Some n) e h in let is : x ≡ n = cc in or_left (eqb x n) (has xs n) (eq-eqb x n is))
-        (λ e. or_right (eqb x n) (has xs n) (find_has p xs n (subst (λ b. cond b (Some x) (find p xs) ≡ Some n) e h)))
-        (cases_Bool (p x))
+    (λ e. let same : Some x ≡ Some n = subst (λ b. cond b (Some x) (find p xs) ≡ Some n) e h in let is : x ≡ n = cc in or_left (eqb x n) (has xs n) (eq-eqb x n is))
+    (λ e. or_right (eqb x n) (has xs n) (find_has p xs n (subst (λ b. cond b (Some x) (find p xs) ≡ Some n) e h)))
+    (cases_Bool (p x))
 
 pub filter_from-next : (low : ℕ) (xs : List ℕ) (from n : ℕ) → IsAscendingFrom low xs → find (leb from) xs ≡ Some n → filter (leb from) xs ≡ n ∷ filter (leb (n + 1)) xs
 filter_from-next low [] from n up h = absurd (cc)
 filter_from-next low (x ∷ xs) from n up h =
     ⊎_elim
-        (λ e.
-            let same : Some x ≡ Some n = subst (λ b. cond b (Some x) (find (leb from) xs) ≡ Some n) e h in
-            let is : x ≡ n = cc in
-            let l : from ≤ x = leb-true from x e in
-            let past : x < n + 1 = omega arith in
-            ap (λ b. cond b (x ∷ filter (leb from) xs) (filter (leb from) xs)) e
-            ∙ ap (λ ys. x ∷ ys) (filter_from-all from (suc x) xs up.1 (omega arith) ∙ sym (filter_from-all (n + 1) (suc x) xs up.1 (omega arith)))
-            ∙ ap (λ m. m ∷ filter (leb (n + 1)) xs) is
-            ∙ ap (λ b. n ∷ cond b (x ∷ filter (leb (n + 1)) xs) (filter (leb (n + 1)) xs)) (sym (lt-leb (n + 1) x past)))
-        (λ e.
-            let h' : find (leb from) xs ≡ Some n = subst (λ b. cond b (Some x) (find (leb from) xs) ≡ Some n) e h in
-            let l : from ≤ n = find_from-at_least from xs n h' in
-            let before : x < from = leb-false from x e in
-            let past : x < n + 1 = omega arith in
-            ap (λ b. cond b (x ∷ filter (leb from) xs) (filter (leb from) xs)) e
-            ∙ filter_from-next (suc x) xs from n up.1 h'
-            ∙ ap (λ b. n ∷ cond b (x ∷ filter (leb (n + 1)) xs) (filter (leb (n + 1)) xs)) (sym (lt-leb (n + 1) x past)))
-        (cases_Bool (leb from x))
+    (λ e.
+    let same : Some x ≡ Some n = subst (λ b. cond b (Some x) (find (leb from) xs) ≡ Some n) e h in
+    let is : x ≡ n = cc in
+    let l : from ≤ x = leb-true from x e in
+    let past : x < n + 1 = omega arith in
+    ap (λ b. cond b (x ∷ filter (leb from) xs) (filter (leb from) xs)) e
+    ∙ ap (λ ys. x ∷ ys) (filter_from-all from (suc x) xs up.1 (omega arith) ∙ sym (filter_from-all (n + 1) (suc x) xs up.1 (omega arith)))
+    ∙ ap (λ m. m ∷ filter (leb (n + 1)) xs) is
+    ∙ ap (λ b. n ∷ cond b (x ∷ filter (leb (n + 1)) xs) (filter (leb (n + 1)) xs)) (sym (lt-leb (n + 1) x past)))
+    (λ e.
+    let h' : find (leb from) xs ≡ Some n = subst (λ b. cond b (Some x) (find (leb from) xs) ≡ Some n) e h in
+    let l : from ≤ n = find_from-at_least from xs n h' in
+    let before : x < from = leb-false from x e in
+    let past : x < n + 1 = omega arith in
+    ap (λ b. cond b (x ∷ filter (leb from) xs) (filter (leb from) xs)) e
+    ∙ filter_from-next (suc x) xs from n up.1 h'
+    ∙ ap (λ b. n ∷ cond b (x ∷ filter (leb (n + 1)) xs) (filter (leb (n + 1)) xs)) (sym (lt-leb (n + 1) x past)))
+    (cases_Bool (leb from x))
 
 pub filter-find_none : (p : ℕ → Bool) (xs : List ℕ) → find p xs ≡ None → filter p xs ≡ []
 filter-find_none p [] h = refl
 filter-find_none p (x ∷ xs) h =
     ⊎_elim
-        (λ e. let same : Some x ≡ None = subst (λ b. cond b (Some x) (find p xs) ≡ None) e h in absurd (cc))
-        (λ e. ap (λ b. cond b (x ∷ filter p xs) (filter p xs)) e ∙ filter-find_none p xs (subst (λ b. cond b (Some x) (find p xs) ≡ None) e h))
-        (cases_Bool (p x))
+    (λ e. let same : Some x ≡ None = subst (λ b. cond b (Some x) (find p xs) ≡ None) e h in absurd (cc))
+    (λ e. ap (λ b. cond b (x ∷ filter p xs) (filter p xs)) e ∙ filter-find_none p xs (subst (λ b. cond b (Some x) (find p xs) ≡ None) e h))
+    (cases_Bool (p x))

@@ -1,14 +1,12 @@
 -- Words compared from the last to the first are compared as their numbers are, from the greatest down.
-use Rattle.std.proofs.Common.{◌≡◌, ◌≢◌, ℕ, zero, suc, ◌+◌, ◌-◌, ◌*◌, ◌/◌, ◌%◌, ◌^◌, ◌<◌, ◌≤◌, Bool, true, false, cond, ◌⊎◌, Ordering, inl, inr, ⊎_elim, List, [], ◌∷◌, ◌++◌, reverse, map, length, get_or, eqb, ltb, refl, sym, ap, ◌∙◌, subst, arith}
-use Rattle.std.proofs.lemmas.Bool.{cases_order, lt-ltb, le-ltb, eq-eqb, ne_eqb}
-use Rattle.std.proofs.lemmas.Bool.Decides.{nat_tests}
+use Rattle.std.proofs.Common.{◌≡◌, ◌≢◌, ℕ, zero, suc, ◌+◌, ◌-◌, ◌*◌, ◌/◌, ◌%◌, ◌^◌, ◌<◌, ◌≤◌, Bool, true, false, cond, Ordering, ⊎_elim, List, [], ◌∷◌, ◌++◌, reverse, length, get_or, eqb, refl, sym, ap, ◌∙◌, arith}
+use Rattle.std.proofs.lemmas.Bool.{cases_order, lt-ltb, le-ltb, ne_eqb}
 use Rattle.std.proofs.lemmas.Cmp.{nat_cmp_total, tied_itself}
 use Rattle.std.proofs.lemmas.List.{reverse-append, map-id}
 use Rattle.std.proofs.lemmas.List.FromFn.{filter_of_map_range_with_len_more}
 use Rattle.std.proofs.lemmas.Nat.Bits.{bit_at-suc, bit_at_lowest}
 use Rattle.std.proofs.Math.Nat.{pow-suc}
 use Rattle.std.specs.declared.cmp.Ordering.TheVariants.{Less, Equal, Greater}
-use Rattle.std.specs.Int.{bit_at}
 use Rattle.std.specs.List.{filter, range_with_len}
 use Rattle.std.specs.Ordering.{nat_cmp, bool_cmp, ordering_then}
 use Rattle.std.specs.Cmp.Lexicographic.{slice_cmp}
@@ -125,20 +123,20 @@ low_cmp (suc (suc a)) b p q = absurd (omega arith)
 same_low : (x y : ℕ) → x / 2 ≡ y / 2 → nat_cmp x y ≡ nat_cmp (x % 2) (y % 2)
 same_low x y e =
     ⊎_elim
-        (λ f. let same : x ≡ y = omega arith in ap (λ z. nat_cmp z y) same ∙ tied_itself nat_cmp_total y ∙ sym (ap (λ z. nat_cmp z (y % 2)) f ∙ tied_itself nat_cmp_total (y % 2)))
-        (⊎_elim
-            (λ l. let under : x < y = omega arith in cmp_less x y under ∙ sym (cmp_less (x % 2) (y % 2) l))
-            (λ l. let over : y < x = omega arith in cmp_greater x y over ∙ sym (cmp_greater (x % 2) (y % 2) l)))
-        (cases_order (x % 2) (y % 2))
+    (λ f. let same : x ≡ y = omega arith in ap (λ z. nat_cmp z y) same ∙ tied_itself nat_cmp_total y ∙ sym (ap (λ z. nat_cmp z (y % 2)) f ∙ tied_itself nat_cmp_total (y % 2)))
+    (⊎_elim
+    (λ l. let under : x < y = omega arith in cmp_less x y under ∙ sym (cmp_less (x % 2) (y % 2) l))
+    (λ l. let over : y < x = omega arith in cmp_greater x y over ∙ sym (cmp_greater (x % 2) (y % 2) l)))
+    (cases_order (x % 2) (y % 2))
 
 halves_cmp : (x y : ℕ) → nat_cmp x y ≡ ordering_then (nat_cmp (x / 2) (y / 2)) (nat_cmp (x % 2) (y % 2))
 halves_cmp x y =
     ⊎_elim
-        (λ e. same_low x y e ∙ ap (λ o. ordering_then o (nat_cmp (x % 2) (y % 2))) (sym (ap (λ z. nat_cmp z (y / 2)) e ∙ tied_itself nat_cmp_total (y / 2))))
-        (⊎_elim
-            (λ l. let under : x < y = omega arith in cmp_less x y under ∙ ap (λ o. ordering_then o (nat_cmp (x % 2) (y % 2))) (sym (cmp_less (x / 2) (y / 2) l)))
-            (λ l. let over : y < x = omega arith in cmp_greater x y over ∙ ap (λ o. ordering_then o (nat_cmp (x % 2) (y % 2))) (sym (cmp_greater (x / 2) (y / 2) l))))
-        (cases_order (x / 2) (y / 2))
+    (λ e. same_low x y e ∙ ap (λ o. ordering_then o (nat_cmp (x % 2) (y % 2))) (sym (ap (λ z. nat_cmp z (y / 2)) e ∙ tied_itself nat_cmp_total (y / 2))))
+    (⊎_elim
+    (λ l. let under : x < y = omega arith in cmp_less x y under ∙ ap (λ o. ordering_then o (nat_cmp (x % 2) (y % 2))) (sym (cmp_less (x / 2) (y / 2) l)))
+    (λ l. let over : y < x = omega arith in cmp_greater x y over ∙ ap (λ o. ordering_then o (nat_cmp (x % 2) (y % 2))) (sym (cmp_greater (x / 2) (y / 2) l))))
+    (cases_order (x / 2) (y / 2))
 
 pub nat_cmp-bits : (n x y : ℕ) → x < 2 ^ n → y < 2 ^ n → nat_cmp x y ≡ bits_cmp (bit_of x) (bit_of y) n
 nat_cmp-bits zero x y p q =
@@ -158,6 +156,7 @@ nat_cmp-bits (suc n) x y p q =
   where
     shifted : (z j : ℕ) → bit_of (z / 2) j ≡ bit_of z (1 + j)
     shifted z j = let e : 1 + j ≡ suc j = omega arith in ap (λ v. eqb v 1) (sym (bit_at-suc z j)) ∙ ap (bit_of z) (sym e)
+
     lowest : (a b : ℕ) → bool_cmp (eqb (a % 2) 1) (eqb (b % 2) 1) ≡ bits_cmp (bit_of a) (bit_of b) 1
     lowest a b =
         ap (λ v. bool_cmp (eqb v 1) (eqb (b % 2) 1)) (sym (bit_at_lowest a))
@@ -171,8 +170,8 @@ words_cmp-more us vs i p q =
     ap (bits_cmp (has_bit us) (has_bit vs)) e
     ∙ bits_cmp-add (has_bit us) (has_bit vs) (64 * i) 64
     ∙ ap (λ o. ordering_then o (bits_cmp (has_bit us) (has_bit vs) (64 * i)))
-        (bits_cmp-agree (λ j. has_bit us (64 * i + j)) (λ j. has_bit vs (64 * i + j)) (bit_of (get_or us i 0)) (bit_of (get_or vs i 0)) 64 (λ j l. has_bit_at us i j l) (λ j l. has_bit_at vs i j l)
-            ∙ sym (nat_cmp-bits 64 (get_or us i 0) (get_or vs i 0) p q))
+    (bits_cmp-agree (λ j. has_bit us (64 * i + j)) (λ j. has_bit vs (64 * i + j)) (bit_of (get_or us i 0)) (bit_of (get_or vs i 0)) 64 (λ j l. has_bit_at us i j l) (λ j l. has_bit_at vs i j l)
+    ∙ sym (nat_cmp-bits 64 (get_or us i 0) (get_or vs i 0) p q))
 
 pub numbers_cmp : (us vs : List ℕ) → length us ≡ length vs → slice_cmp nat_cmp (reverse (numbers_of us)) (reverse (numbers_of vs)) ≡ bits_cmp (has_bit us) (has_bit vs) (64 * length us)
 unfolding numbers_of

@@ -1,12 +1,12 @@
 -- What the calls on words leave, as sets.
-use Rattle.std.proofs.Common.{◌≡◌, ◌↔◌, ℕ, zero, suc, Some, None, ◌+◌, ◌*◌, ◌/◌, ◌^◌, ◌<◌, ◌≤◌, Bool, true, false, not, ◌&&◌, ◌||◌, Option, ⊎_elim, List, [], ◌∷◌, ◌++◌, length, get_or, take, drop, replicate, eqb, leb, refl, sym, ap, ◌∙◌, subst, arith}
-use Rattle.std.proofs.lemmas.Bool.{false≢true, eqb-true, or_cases, and_parts, cases_lt}
-use Rattle.std.proofs.lemmas.List.{take_at, get_or-replicate, get_or_past, length-replicate}
+use Rattle.std.proofs.Common.{◌≡◌, ◌↔◌, ℕ, Some, None, ◌+◌, ◌*◌, ◌/◌, ◌^◌, ◌<◌, ◌≤◌, Bool, true, false, not, ◌&&◌, ◌||◌, Option, ⊎_elim, List, [], ◌∷◌, ◌++◌, length, get_or, take, drop, replicate, eqb, leb, refl, sym, ap, ◌∙◌, subst, arith}
+use Rattle.std.proofs.lemmas.Bool.{false≢true, eqb-true, or_cases, and_parts}
+use Rattle.std.proofs.lemmas.List.{take_at, get_or-replicate, length-replicate}
 use Rattle.std.specs.List.{filter, find}
 use Rattle.std.specs.Prelude.{IfSome}
 use Rattle.mf_set.specs.Numbers.{Numbers, has, IsAscendingFrom, IsBelow, with_number, without_number, union, meet, is_subset, first_common}
-use Rattle.mf_set.specs.Words.{bit_of, has_bit, numbers_of, AreWords, IsLeast, IsLeastOrNone}
-use Rattle.mf_set.proofs.NumberLaws.{has-with_number, has-without_number, has-union, has-meet, has_first, IsAscendingFrom-with_number, IsAscendingFrom-filter, IsAscendingFrom-union, find_none, find_least, is_subset-members, members-is_subset, find_from-at_least, find_has, filter_from-next}
+use Rattle.mf_set.specs.Words.{has_bit, numbers_of, AreWords, IsLeastOrNone}
+use Rattle.mf_set.proofs.NumberLaws.{has-with_number, has-without_number, has-union, has-meet, IsAscendingFrom-with_number, IsAscendingFrom-filter, IsAscendingFrom-union, find_none, find_least, is_subset-members, members-is_subset, find_from-at_least, find_has, filter_from-next}
 use Rattle.std.specs.Cmp.{both_ways}
 use Rattle.mf_set.proofs.WordLaws.{has-numbers_of, IsAscendingFrom-numbers_of, numbers_of_is, has_no_bit, zero_from_no_bit}
 use Rattle.mf_set.proofs.CountLaws.{length_within}
@@ -22,22 +22,22 @@ written_back n us ws e = take_at ws (drop (length ws) us) n e
 pub numbers_of-insert : (us ws : List ℕ) (k : ℕ) → ((n : ℕ) → has_bit ws n ≡ (eqb k n || has_bit us n)) → numbers_of ws ≡ with_number (numbers_of us) k
 numbers_of-insert us ws k h =
     numbers_of_is ws (with_number (numbers_of us) k) (IsAscendingFrom-with_number 0 (numbers_of us) k (omega arith) (IsAscendingFrom-numbers_of us))
-        (λ n. h n ∙ ap (λ b. eqb k n || b) (sym (has-numbers_of us n)) ∙ sym (has-with_number (numbers_of us) k n))
+    (λ n. h n ∙ ap (λ b. eqb k n || b) (sym (has-numbers_of us n)) ∙ sym (has-with_number (numbers_of us) k n))
 
 pub numbers_of-remove : (us ws : List ℕ) (k : ℕ) → ((n : ℕ) → has_bit ws n ≡ (has_bit us n && not (eqb n k))) → numbers_of ws ≡ without_number (numbers_of us) k
 numbers_of-remove us ws k h =
     numbers_of_is ws (without_number (numbers_of us) k) (IsAscendingFrom-filter (λ n. not (eqb n k)) 0 (numbers_of us) (IsAscendingFrom-numbers_of us))
-        (λ n. h n ∙ ap (λ b. b && not (eqb n k)) (sym (has-numbers_of us n)) ∙ sym (has-without_number (numbers_of us) k n))
+    (λ n. h n ∙ ap (λ b. b && not (eqb n k)) (sym (has-numbers_of us n)) ∙ sym (has-without_number (numbers_of us) k n))
 
 pub numbers_of-union : (us vs ws : List ℕ) → ((n : ℕ) → has_bit ws n ≡ (has_bit us n || has_bit vs n)) → numbers_of ws ≡ union (numbers_of us) (numbers_of vs)
 numbers_of-union us vs ws h =
     numbers_of_is ws (union (numbers_of us) (numbers_of vs)) (IsAscendingFrom-union (numbers_of us) (numbers_of vs) (IsAscendingFrom-numbers_of us))
-        (λ n. h n ∙ ap (λ b. b || has_bit vs n) (sym (has-numbers_of us n)) ∙ ap (λ b. has (numbers_of us) n || b) (sym (has-numbers_of vs n)) ∙ sym (has-union (numbers_of us) (numbers_of vs) n))
+    (λ n. h n ∙ ap (λ b. b || has_bit vs n) (sym (has-numbers_of us n)) ∙ ap (λ b. has (numbers_of us) n || b) (sym (has-numbers_of vs n)) ∙ sym (has-union (numbers_of us) (numbers_of vs) n))
 
 pub numbers_of-meet : (us vs ws : List ℕ) → ((n : ℕ) → has_bit ws n ≡ (has_bit us n && has_bit vs n)) → numbers_of ws ≡ meet (numbers_of us) (numbers_of vs)
 numbers_of-meet us vs ws h =
     numbers_of_is ws (meet (numbers_of us) (numbers_of vs)) (IsAscendingFrom-filter (has (numbers_of vs)) 0 (numbers_of us) (IsAscendingFrom-numbers_of us))
-        (λ n. h n ∙ ap (λ b. b && has_bit vs n) (sym (has-numbers_of us n)) ∙ ap (λ b. has (numbers_of us) n && b) (sym (has-numbers_of vs n)) ∙ sym (has-meet (numbers_of us) (numbers_of vs) n))
+    (λ n. h n ∙ ap (λ b. b && has_bit vs n) (sym (has-numbers_of us n)) ∙ ap (λ b. has (numbers_of us) n && b) (sym (has-numbers_of vs n)) ∙ sym (has-meet (numbers_of us) (numbers_of vs) n))
 
 -- ---- the invariant
 kept : (room : ℕ) (us ws : List ℕ) → AreWords room us → length ws ≡ length us → ((n : ℕ) → has_bit ws n ≡ true → n < room) → AreWords room ws
@@ -65,7 +65,7 @@ pub AreWords-none : (room count : ℕ) → room < 2 ^ 64 → count ≡ (room + 6
 AreWords-none room count l e = record {
   fits = l;
   count = length-replicate count 0 ∙ e;
-  below = λ n is. absurd (false≢true (sym (no_bit count n) ∙ is))
+  below = λ n is. absurd (false≢true (sym (no_bit count n) ∙ is));
 }
 
 pub numbers_of-none : (count : ℕ) → numbers_of (replicate count 0) ≡ []
@@ -95,7 +95,7 @@ least_is test p ws None e h =
 least_is test p ws (Some k) e h =
     let both = and_parts (has_bit ws k) (p k) (sym (e k) ∙ h.passes) in
     sym (find_least p 0 (numbers_of ws) k (IsAscendingFrom-numbers_of ws) (has-numbers_of ws k ∙ both.0) both.1
-        (λ n l is. and_rest (has_bit ws n) (p n) (sym (e n) ∙ h.least n l) (sym (has-numbers_of ws n) ∙ is)))
+    (λ n l is. and_rest (has_bit ws n) (p n) (sym (e n) ∙ h.least n l) (sym (has-numbers_of ws n) ∙ is)))
 
 pub first_common_is : (us vs : List ℕ) (r : Option ℕ) → IsLeastOrNone (λ n. has_bit us n && has_bit vs n) r → r ≡ first_common (numbers_of us) (numbers_of vs)
 first_common_is us vs r h =
@@ -113,8 +113,8 @@ next_from_is ws from r h = least_is (λ n. leb from n && has_bit ws n) (leb from
 pub is_subset_is : (us vs : List ℕ) (r : Bool) → ((r ≡ true) ↔ ((n : ℕ) → has_bit us n ≡ true → has_bit vs n ≡ true)) → r ≡ is_subset (numbers_of us) (numbers_of vs)
 is_subset_is us vs r h =
     both_ways r (is_subset (numbers_of us) (numbers_of vs))
-        (λ is. members-is_subset (numbers_of us) (numbers_of vs) (λ n m. has-numbers_of vs n ∙ h.0 is n (sym (has-numbers_of us n) ∙ m)))
-        (λ is. h.1 (λ n m. sym (has-numbers_of vs n) ∙ is_subset-members (numbers_of us) (numbers_of vs) is n (has-numbers_of us n ∙ m)))
+    (λ is. members-is_subset (numbers_of us) (numbers_of vs) (λ n m. has-numbers_of vs n ∙ h.0 is n (sym (has-numbers_of us n) ∙ m)))
+    (λ is. h.1 (λ n m. sym (has-numbers_of vs n) ∙ is_subset-members (numbers_of us) (numbers_of vs) is n (has-numbers_of us n ∙ m)))
 
 -- the bits of a set's words are numbers of 64 bits
 pub bits_fit : (room : ℕ) (ws : List ℕ) → AreWords room ws → 64 * length ws ≤ 2 ^ 64

@@ -4,7 +4,7 @@
 --     IsAscendingFrom low xs, IsBelow room xs      the numbers ascend, the first of them at low or above; each is below room
 --     with_number xs k, without_number xs k      the ascending list with k in its place, and the list without k
 --     union xs ys, meet xs ys      the numbers of either list, and those of xs that ys has
-use Rattle.std.specs.Prelude.{◌≡◌, ℕ, zero, suc, ◌+◌, ◌*◌, ◌/◌, ◌^◌, map, ◌<◌, ◌≤◌, Bool, true, not, Option, List, [], ◌∷◌, nat_lt, ◌==◌, if◌then◌else◌}
+use Rattle.std.specs.Prelude.{◌≡◌, ℕ, zero, suc, ◌+◌, ◌*◌, ◌^◌, map, ◌<◌, ◌≤◌, Bool, true, not, Option, List, [], ◌∷◌, nat_lt, ◌==◌, if◌then◌else◌}
 use Rattle.std.specs.List.{filter, find, list_all, list_any, range_with_len}
 
 pub record Numbers : Type 0 where

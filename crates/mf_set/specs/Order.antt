@@ -2,7 +2,7 @@
 --     numbers_eq      one room, and the same numbers
 --     numbers_cmp      the rooms decide, and then the greatest number that is in one of the sets alone
 --     writes_of      the room, and then the words of the set
-use Rattle.std.specs.Prelude.{◌≡◌, ℕ, ◌+◌, ◌/◌, Bool, true, ◌&&◌, List, ◌++◌, reverse, nat_eq, IsTrue, refl}
+use Rattle.std.specs.Prelude.{◌≡◌, ℕ, ◌+◌, ◌/◌, Bool, true, List, ◌++◌, reverse, nat_eq, IsTrue, refl}
 use Rattle.std.specs.Cmp.{IsEquivalence, IsTotalOrder, and_equiv, on_equiv, nat_eq_equiv, then_total, on_total, nat_cmp_total, unsigned_tied, tied_itself, both_ways, Equal-is}
 use Rattle.std.specs.Cmp.Lexicographic.{slice_cmp, pointwise, bytes_decides, nat_list_eq_equiv, nat_list_cmp_total, texts_ties}
 use Rattle.std.specs.declared.cmp.Ordering.{Ordering}
@@ -10,8 +10,8 @@ use Rattle.std.specs.Ordering.{on, then_cmp, eq_of_both, eq_by_cmp, is_eq, nat_c
 use Rattle.std.specs.declared.cmp.Ordering.TheVariants.{Less, Equal, Greater}
 use Rattle.std.specs.Hash as fed
 use Rattle.std.specs.List.{flat_map}
-use Rattle.std.proofs.Common.{sym, ap, ◌∙◌, eqb-true, eq-eqb}
-use Rattle.std.proofs.lemmas.Bool.{and_parts, and_from}
+use Rattle.std.proofs.Common.{sym, ap, ◌∙◌, eqb-true}
+use Rattle.std.proofs.lemmas.Bool.{and_parts}
 use Rattle.std.proofs.lemmas.List.{reverse-reverse}
 use Rattle.mf_set.specs.Numbers.{Numbers, words_of}
 
@@ -61,8 +61,8 @@ numbers_tied x y h =
 pub numbers_ties : (x y : Numbers) → numbers_eq x y ≡ eq_by_cmp numbers_cmp x y
 numbers_ties x y =
     both_ways (numbers_eq x y) (eq_by_cmp numbers_cmp x y)
-        (λ h. ap (λ z. eq_by_cmp numbers_cmp z y) (numbers_eq-same x y h) ∙ ap is_eq (tied_itself numbers_cmp_total y))
-        (λ h. same-numbers_eq x y (numbers_tied x y ((Equal-is (numbers_cmp x y)).0 h)))
+    (λ h. ap (λ z. eq_by_cmp numbers_cmp z y) (numbers_eq-same x y h) ∙ ap is_eq (tied_itself numbers_cmp_total y))
+    (λ h. same-numbers_eq x y (numbers_tied x y ((Equal-is (numbers_cmp x y)).0 h)))
 
 pub numbers_fed : (x y : Numbers) → IsTrue (numbers_eq x y) → writes_of x ≡ writes_of y
 numbers_fed x y h = ap writes_of (numbers_eq-same x y h)

@@ -4,11 +4,9 @@ ghost use Rattle.mf_set.specs.Numbers.{has, IsAscendingFrom, IsBelow, with_numbe
 
 mod order;
 
+use crate::{Memory, words};
 use std::alloc::Global;
 use std::marker::Model;
-
-use crate::Memory;
-use crate::words;
 
 /// A set of numbers below its room, which no call changes.
 ///
@@ -36,7 +34,7 @@ impl BitSet {
     pub fn with_room(alloc: Global, n: usize) -> Result<BitSet, Memory>
         ensures { IfOk result (λ s. s ≡ record { items = []; room = n }) }
     {
-        let words = vec![in alloc; 0; n.div_ceil(64)]?;
+        let words = vec![in alloc; 0; n.div_ceil(words::WORD_BITS)]?;
         Ok(BitSet { words, room: n })
     }
 

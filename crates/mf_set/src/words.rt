@@ -11,7 +11,7 @@ use std::cmp::Ordering;
 use std::hash::{Hash, Hasher};
 
 // The bits of a word.
-const WORD_BITS: usize = 64;
+pub const WORD_BITS: usize = 64;
 
 pub fn insert(words: &mut [u64], number: usize)
     requires { number / 64 < length words.old }

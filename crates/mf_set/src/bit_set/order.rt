@@ -3,11 +3,10 @@ ghost use Rattle.std.specs.Cmp.{partial_order_from_agreeing_total, partial_equiv
 ghost use Rattle.std.specs.Ordering.{as_partial_cmp};
 ghost use Rattle.mf_set.specs.Order.{numbers_eq, numbers_cmp, writes_of, numbers_eq_equiv, numbers_cmp_total, numbers_ties, numbers_fed};
 
-use std::cmp::Ordering;
-use std::hash::{Hash, Hasher};
-
 use super::BitSet;
 use crate::words;
+use std::cmp::Ordering;
+use std::hash::{Hash, Hasher};
 
 impl PartialEq for BitSet {
     ghost eq = { numbers_eq };

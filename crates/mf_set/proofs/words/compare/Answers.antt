@@ -1,4 +1,4 @@
-use Rattle.std.proofs.Common.{◌≡◌, ◌-◌, ◌*◌, refl, sym, ap, ◌∙◌, arith}
+use Rattle.std.proofs.Common.{◌≡◌, ◌-◌, ◌*◌, sym, ap, ◌∙◌, arith}
 use Rattle.std.specs.Ordering.{ordering_then}
 use Rattle.mf_set.specs.Words.{has_bit}
 use Rattle.mf_set.proofs.OrderLaws.{bits_cmp, numbers_cmp, words_cmp-step, then_decided}
@@ -13,10 +13,10 @@ loop-i-preserved c =
 pub returns-in_default : goal.returns-in_default
 returns-in_default c =
     sym (numbers_cmp c.args.words.now c.args.other.now c.requires
-        ∙ c.loop-i.invariant
-        ∙ words_cmp-step c.args.words.now c.args.other.now c.loop-i.i c.loop-i-test.true (c.type_inv.words (c.loop-i.i - 1)).fits (c.type_inv.other (c.loop-i.i - 1)).fits
-        ∙ ap (λ o. ordering_then o (bits_cmp (has_bit c.args.words.now) (has_bit c.args.other.now) (64 * (c.loop-i.i - 1)))) (sym c.cmp.ensures)
-        ∙ then_decided c.cmp.result (bits_cmp (has_bit c.args.words.now) (has_bit c.args.other.now) (64 * (c.loop-i.i - 1))) c.in_default.not-Equal)
+    ∙ c.loop-i.invariant
+    ∙ words_cmp-step c.args.words.now c.args.other.now c.loop-i.i c.loop-i-test.true (c.type_inv.words (c.loop-i.i - 1)).fits (c.type_inv.other (c.loop-i.i - 1)).fits
+    ∙ ap (λ o. ordering_then o (bits_cmp (has_bit c.args.words.now) (has_bit c.args.other.now) (64 * (c.loop-i.i - 1)))) (sym c.cmp.ensures)
+    ∙ then_decided c.cmp.result (bits_cmp (has_bit c.args.words.now) (has_bit c.args.other.now) (64 * (c.loop-i.i - 1))) c.in_default.not-Equal)
 
 pub returns : goal.returns
 returns c =

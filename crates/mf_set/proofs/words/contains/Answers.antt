@@ -1,4 +1,4 @@
-use Rattle.std.proofs.Common.{◌+◌, ◌%◌, ◌/◌, eqb, ap, ◌∙◌}
+use Rattle.std.proofs.Common.{◌%◌, eqb, ap, ◌∙◌}
 use Rattle.std.proofs.lemmas.Nat.Bits.{shr_and_one}
 use Rattle.mf_set.specs.Words.{bit_of, has_bit}
 use Rattle.mf_set.proofs.words.contains.Goals as goal

@@ -1,4 +1,4 @@
-use Rattle.std.proofs.Common.{◌≡◌, ◌+◌, ◌*◌, ◌/◌, ◌&&◌, ℕ, leb, sym, ap, ◌∙◌, arith, get_or}
+use Rattle.std.proofs.Common.{◌+◌, ◌*◌, ◌&&◌, leb, sym, ap, ◌∙◌}
 use Rattle.mf_set.specs.Words.{bit_of}
 use Rattle.mf_set.proofs.WordLaws.{bit_of-from}
 use Rattle.mf_set.proofs.words.word_from.Goals as goal

@@ -1,6 +1,6 @@
-use Rattle.std.proofs.Common.{◌≡◌, ℕ, ◌+◌, ◌*◌, ◌^◌, ◌<◌, ◌≤◌, Bool, true, not, ◌&&◌, ◌||◌, List, [], length, eqb, leb, refl, sym, ap, ◌∙◌, subst, arith, rules}
-use Rattle.mf_set.specs.Numbers.{Numbers, has, IsAscendingFrom, IsBelow, with_number, without_number, union, meet, is_subset, first_common}
-use Rattle.mf_set.specs.Words.{has_bit, numbers_of, AreWords, IsLeastOrNone}
+use Rattle.std.proofs.Common.{sym, ap, ◌∙◌}
+use Rattle.mf_set.specs.Numbers.{Numbers, has}
+use Rattle.mf_set.specs.Words.{has_bit}
 use Rattle.mf_set.proofs.WordLaws.{has-numbers_of}
 use Rattle.mf_set.proofs.NumberLaws.{has-Contains, Contains-has}
 use Rattle.mf_set.proofs.bit_set.BitSet.contains.Goals as goal
@@ -13,7 +13,7 @@ returns-clause-value c =
     ∙ ap (λ (s : Numbers). has s.items c.args.k) c.self.view_is
 
 pub returns-clause-member : goal.returns-clause-member
-returns-clause-member c =
-    ( λ h. has-Contains c.args.self.now.items c.args.k (sym (returns-clause-value c) ∙ h)
-    , λ m. returns-clause-value c ∙ Contains-has c.args.self.now.items c.args.k m
-    )
+returns-clause-member c = (
+  λ h. has-Contains c.args.self.now.items c.args.k (sym (returns-clause-value c) ∙ h),
+  λ m. returns-clause-value c ∙ Contains-has c.args.self.now.items c.args.k m,
+)

@@ -1,6 +1,6 @@
-use Rattle.std.proofs.Common.{◌≡◌, ℕ, ◌+◌, ◌*◌, ◌^◌, ◌<◌, ◌≤◌, Bool, true, not, ◌&&◌, ◌||◌, List, [], length, eqb, leb, refl, sym, ap, ◌∙◌, subst, arith, rules}
-use Rattle.mf_set.specs.Numbers.{Numbers, has, IsAscendingFrom, IsBelow, with_number, without_number, union, meet, is_subset, first_common}
-use Rattle.mf_set.specs.Words.{has_bit, numbers_of, AreWords, IsLeastOrNone}
+use Rattle.std.proofs.Common.{length, ap, ◌∙◌, arith}
+use Rattle.mf_set.specs.Numbers.{Numbers, first_common}
+use Rattle.mf_set.specs.Words.{numbers_of}
 use Rattle.mf_set.proofs.SetLaws.{bits_fit, first_common_is}
 use Rattle.mf_set.proofs.bit_set.BitSet.first_common.Goals as goal
 

@@ -1,6 +1,5 @@
-use Rattle.std.proofs.Common.{◌≡◌, ℕ, ◌+◌, ◌*◌, ◌^◌, ◌<◌, ◌≤◌, Bool, true, not, ◌&&◌, ◌||◌, List, [], length, eqb, leb, refl, sym, ap, ◌∙◌, subst, arith, rules}
-use Rattle.mf_set.specs.Numbers.{Numbers, has, IsAscendingFrom, IsBelow, with_number, without_number, union, meet, is_subset, first_common}
-use Rattle.mf_set.specs.Words.{has_bit, numbers_of, AreWords, IsLeastOrNone}
+use Rattle.std.proofs.Common.{subst}
+use Rattle.mf_set.specs.Numbers.{Numbers, IsAscendingFrom, IsBelow}
 use Rattle.mf_set.proofs.WordLaws.{IsAscendingFrom-numbers_of}
 use Rattle.mf_set.proofs.SetLaws.{numbers_of-below}
 use Rattle.mf_set.proofs.bit_set.BitSet.room.Goals as goal

@@ -1,4 +1,4 @@
-use Rattle.std.proofs.Common.{◌≡◌, ◌++◌, leb, sym, ap, ◌∙◌, arith}
+use Rattle.std.proofs.Common.{◌++◌, leb, sym, ap, ◌∙◌}
 use Rattle.std.proofs.lemmas.List.{append-nil}
 use Rattle.std.specs.List.{filter}
 use Rattle.mf_set.proofs.NumberLaws.{filter_from-zero, filter-find_none}

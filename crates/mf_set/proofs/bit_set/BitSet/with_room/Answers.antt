@@ -1,6 +1,6 @@
-use Rattle.std.proofs.Common.{◌≡◌, ℕ, ◌+◌, ◌-◌, ◌*◌, ◌^◌, ◌<◌, ◌≤◌, Bool, true, not, Some, None, ◌&&◌, ◌||◌, List, [], ◌∷◌, ◌++◌, length, replicate, get_or, eqb, leb, refl, sym, ap, ◌∙◌, subst, arith, rules}
-use Rattle.mf_set.specs.Numbers.{Numbers, has, IsAscendingFrom, IsBelow, with_number, without_number, union, meet, is_subset, first_common}
-use Rattle.mf_set.specs.Words.{has_bit, numbers_of, AreWords, IsLeastOrNone}
+use Rattle.std.proofs.Common.{◌≡◌, replicate, sym, ap, ◌∙◌, subst, rules}
+use Rattle.mf_set.specs.Numbers.{Numbers}
+use Rattle.mf_set.specs.Words.{numbers_of, AreWords}
 use Rattle.mf_set.proofs.SetLaws.{AreWords-none, numbers_of-none}
 use Rattle.mf_set.proofs.bit_set.BitSet.with_room.Goals as goal
 
