@@ -4,3 +4,4 @@ pub mod OrderLaws
 pub mod CountLaws
 pub mod InverseLaws
 pub mod SetLaws
+pub mod Examples

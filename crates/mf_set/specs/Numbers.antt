@@ -1,37 +1,40 @@
--- A set of numbers, seen as the ascending list of these.
---     Numbers      a set: its numbers, ascending, and the room that they are below
---     has xs n      whether the list has the number n
---     IsAscendingFrom low xs, IsBelow room xs      the numbers ascend, the first of them at low or above; each is below room
---     with_number xs k, without_number xs k      the ascending list with k in its place, and the list without k
---     union xs ys, meet xs ys      the numbers of either list, and those of xs that ys has
+-- A set of numbers below its room, seen as the ascending list of them.
 use Rattle.std.specs.Prelude.{◌≡◌, ℕ, zero, suc, ◌+◌, ◌*◌, ◌^◌, map, ◌<◌, ◌≤◌, Bool, true, not, Option, List, [], ◌∷◌, nat_lt, ◌==◌, if◌then◌else◌}
 use Rattle.std.specs.List.{filter, find, list_all, list_any, range_with_len}
 
+-- a set: its numbers, ascending, and the room that they are below
 pub record Numbers : Type 0 where
   pub items : List ℕ
   pub room : ℕ
 
+-- whether the list has the number n
 abbrev pub has : List ℕ → ℕ → Bool
 has xs n = list_any (λ m. m == n) xs
 
+-- the numbers ascend, the first of them at low or above
 abbrev pub IsAscendingFrom : ℕ → List ℕ → Type 0
 IsAscendingFrom low [] = Unit {0}
 IsAscendingFrom low (x ∷ xs) = (low ≤ x) × IsAscendingFrom (suc x) xs
 
+-- each number is below the room
 abbrev pub IsBelow : ℕ → List ℕ → Type 0
 IsBelow room xs = (n : ℕ) → has xs n ≡ true → n < room
 
+-- the ascending list with k in its place
 abbrev pub with_number : List ℕ → ℕ → List ℕ
 with_number [] k = k ∷ []
 with_number (x ∷ xs) k = if nat_lt k x then k ∷ x ∷ xs else if k == x then x ∷ xs else x ∷ with_number xs k
 
+-- the list without k
 abbrev pub without_number : List ℕ → ℕ → List ℕ
 without_number xs k = filter (λ n. not (n == k)) xs
 
+-- the ascending list with each number of ys in its place
 abbrev pub union : List ℕ → List ℕ → List ℕ
 union xs [] = xs
 union xs (y ∷ ys) = with_number (union xs ys) y
 
+-- the numbers of xs that ys has
 abbrev pub meet : List ℕ → List ℕ → List ℕ
 meet xs ys = filter (has ys) xs
 
