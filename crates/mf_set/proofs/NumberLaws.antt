@@ -107,6 +107,9 @@ has-union xs (y ∷ ys) n =
 pub has-meet : (xs ys : List ℕ) (n : ℕ) → has (meet xs ys) n ≡ (has xs n && has ys n)
 has-meet xs ys n = has-filter (has ys) xs n
 
+-- these, for `grind`
+pub ruleset members = (has-with_number, has-without_number, has-union, has-meet)
+
 -- ---- what each call leaves ascends
 pub IsAscendingFrom-lower : (low high : ℕ) (xs : List ℕ) → low ≤ high → IsAscendingFrom high xs → IsAscendingFrom low xs
 IsAscendingFrom-lower low high [] l up = tt
