@@ -1,5 +1,5 @@
 -- The definitions, computed on small sets.
-use Rattle.std.proofs.Common.{◌≡◌, Bool, true, false, Some, None, List, [], ◌∷◌, refl}
+use Rattle.std.proofs.Common.{◌≡◌, true, false, Some, None, [], ◌∷◌, refl}
 use Rattle.std.specs.declared.cmp.Ordering.TheVariants.{Less, Greater}
 use Rattle.mf_set.specs.Numbers.{has, with_number, without_number, union, meet, is_subset, first_common, word_of, words_of}
 use Rattle.mf_set.specs.Order.{numbers_eq, numbers_cmp}

@@ -192,7 +192,7 @@ has_at (x ∷ xs) (suc k) n l e = or_right (eqb x n) (has xs n) (has_at xs k n (
 pub Contains-has : (xs : List ℕ) (n : ℕ) → Contains xs n → has xs n ≡ true
 Contains-has xs n h = has_at xs h.0 n h.1 h.2
 
--- ---- the numbers from one on
+-- ---- the number that is found, and the numbers from one on
 pub filter_from-all : (from low : ℕ) (xs : List ℕ) → IsAscendingFrom low xs → from ≤ low → filter (leb from) xs ≡ xs
 filter_from-all from low [] up l = refl
 filter_from-all from low (x ∷ xs) up l =
@@ -216,6 +216,44 @@ find_has p (x ∷ xs) n h =
     ⊎_elim
     (λ e. let same : Some x ≡ Some n = subst (λ b. cond b (Some x) (find p xs) ≡ Some n) e h in let is : x ≡ n = cc in or_left (eqb x n) (has xs n) (eq-eqb x n is))
     (λ e. or_right (eqb x n) (has xs n) (find_has p xs n (subst (λ b. cond b (Some x) (find p xs) ≡ Some n) e h)))
+    (cases_Bool (p x))
+
+pub find_passes : (p : ℕ → Bool) (xs : List ℕ) (n : ℕ) → find p xs ≡ Some n → p n ≡ true
+find_passes p [] n h = absurd (cc)
+find_passes p (x ∷ xs) n h =
+    ⊎_elim
+    (λ e. let same : Some x ≡ Some n = subst (λ b. cond b (Some x) (find p xs) ≡ Some n) e h in let is : x ≡ n = cc in subst (λ m. p m ≡ true) is e)
+    (λ e. find_passes p xs n (subst (λ b. cond b (Some x) (find p xs) ≡ Some n) e h))
+    (cases_Bool (p x))
+
+-- no number before the one that is found passes
+pub find_before : (p : ℕ → Bool) (low : ℕ) (xs : List ℕ) (k n : ℕ) → IsAscendingFrom low xs → find p xs ≡ Some k → n < k → has xs n ≡ true → p n ≡ false
+find_before p low [] k n up h l i = absurd (cc)
+find_before p low (x ∷ xs) k n up h l i =
+    ⊎_elim
+    (λ e.
+    let same : Some x ≡ Some k = subst (λ b. cond b (Some x) (find p xs) ≡ Some k) e h in
+    let is : x ≡ k = cc in
+    let least : x ≤ n = has_from_low x (x ∷ xs) n (omega arith, up.1) i in
+    absurd (omega arith))
+    (λ e.
+    ⊎_elim
+    (λ here. subst (λ m. p m ≡ false) (eqb-true x n here) e)
+    (λ later. find_before p (suc x) xs k n up.1 (subst (λ b. cond b (Some x) (find p xs) ≡ Some k) e h) l later)
+    (or_cases (eqb x n) (has xs n) i))
+    (cases_Bool (p x))
+
+-- where none is found, none passes
+pub none_passes : (p : ℕ → Bool) (xs : List ℕ) (n : ℕ) → find p xs ≡ None → has xs n ≡ true → p n ≡ false
+none_passes p [] n h i = absurd (false≢true i)
+none_passes p (x ∷ xs) n h i =
+    ⊎_elim
+    (λ e. let same : Some x ≡ None = subst (λ b. cond b (Some x) (find p xs) ≡ None) e h in absurd (cc))
+    (λ e.
+    ⊎_elim
+    (λ here. subst (λ m. p m ≡ false) (eqb-true x n here) e)
+    (λ later. none_passes p xs n (subst (λ b. cond b (Some x) (find p xs) ≡ None) e h) later)
+    (or_cases (eqb x n) (has xs n) i))
     (cases_Bool (p x))
 
 pub filter_from-next : (low : ℕ) (xs : List ℕ) (from n : ℕ) → IsAscendingFrom low xs → find (leb from) xs ≡ Some n → filter (leb from) xs ≡ n ∷ filter (leb (n + 1)) xs

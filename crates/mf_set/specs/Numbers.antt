@@ -1,5 +1,5 @@
 -- A set of numbers below its room, seen as the ascending list of them.
-use Rattle.std.specs.Prelude.{◌≡◌, ℕ, zero, suc, ◌+◌, ◌*◌, ◌^◌, map, ◌<◌, ◌≤◌, Bool, true, not, Option, List, [], ◌∷◌, nat_lt, ◌==◌, if◌then◌else◌}
+use Rattle.std.specs.Prelude.{◌≡◌, ℕ, zero, suc, ◌+◌, ◌*◌, ◌^◌, map, ◌<◌, ◌≤◌, Bool, true, not, Option, List, [], ◌∷◌, nat_lt, nat_le, ◌==◌, if◌then◌else◌}
 use Rattle.std.specs.List.{filter, find, list_all, list_any, range_with_len}
 
 -- a set: its numbers, ascending, and the room that they are below
@@ -45,6 +45,14 @@ is_subset xs ys = list_all (has ys) xs
 -- the first number of xs that ys has
 abbrev pub first_common : List ℕ → List ℕ → Option ℕ
 first_common xs ys = find (has ys) xs
+
+-- the first number of xs that is not below k
+abbrev pub next_from : List ℕ → ℕ → Option ℕ
+next_from xs k = find (nat_le k) xs
+
+-- the numbers of xs that are not below k
+abbrev pub numbers_from : List ℕ → ℕ → List ℕ
+numbers_from xs k = filter (nat_le k) xs
 
 -- the word of n bits in which bit j is whether j passes the test
 unfoldable pub word_of : (ℕ → Bool) → ℕ → ℕ

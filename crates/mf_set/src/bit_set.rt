@@ -1,6 +1,6 @@
-ghost use Rattle.std.specs.Prelude.{◌≡◌, ◌+◌, ◌^◌, ◌<◌, ◌≤◌, ◌↔◌, [], ◌∷◌, length, nat_le, IsTrue, IfOk, IfSome};
-ghost use Rattle.std.specs.List.{filter, find, Contains};
-ghost use Rattle.mf_set.specs.Numbers.{has, IsAscendingFrom, IsBelow, with_number, without_number, union, meet, is_subset, first_common};
+ghost use Rattle.std.specs.Prelude.{◌≡◌, ◌+◌, ◌^◌, ◌<◌, ◌≤◌, ◌↔◌, [], ◌∷◌, length, IsTrue, IfOk, IfSome};
+ghost use Rattle.std.specs.List.{Contains};
+ghost use Rattle.mf_set.specs.Numbers.{has, IsAscendingFrom, IsBelow, with_number, without_number, union, meet, is_subset, first_common, next_from, numbers_from};
 
 mod order;
 
@@ -124,11 +124,11 @@ impl BitSet {
 
     /// The least number that is not below `from`.
     pub fn next_from(&self, from: usize) -> Option<usize>
-        ensures value { result ≡ find (nat_le from) self.now.items }
+        ensures value { result ≡ next_from self.now.items from }
         ensures within { IfSome result (λ n. (from ≤ n) × (n < self.now.room) × (n + 1 < 2 ^ 64)) }
 
         // The numbers from `from` on are the answer and those after it.
-        ensures rest { IfSome result (λ n. filter (nat_le from) self.now.items ≡ n ∷ filter (nat_le (n + 1)) self.now.items) }
+        ensures rest { IfSome result (λ n. numbers_from self.now.items from ≡ n ∷ numbers_from self.now.items (n + 1)) }
     {
         words::next_from(self.words.as_slice(), from)
     }

@@ -1,9 +1,8 @@
+use crate::{BitSet, Memory};
 use std::alloc::Global;
 use std::cmp::Ordering;
 use std::hash::{DefaultHasher, Hash, Hasher};
 use std::test::Fail;
-
-use crate::{BitSet, Memory};
 
 // The set of those of the numbers that are below the room.
 fn set_of(alloc: Global, room: usize, numbers: &[usize]) -> Result<BitSet, Memory> {
@@ -59,7 +58,10 @@ fn joins_and_compares(rt: HostRuntime) -> Result<(), Fail> {
     assert_eq!(rt; set.cmp(&other), Ordering::Greater);
     if set.room() == other.room() {
         set.union_with(&other);
-        assert_eq!(rt; set.to_vec(alloc)?.as_slice(), [0, 63, 64, 100, 129].as_slice());
+        assert_eq!(rt;
+            set.to_vec(alloc)?.as_slice(),
+            [0, 63, 64, 100, 129].as_slice()
+        );
         assert!(rt; other.is_subset(&set));
         set.meet_with(&other);
         assert!(rt; set == other);

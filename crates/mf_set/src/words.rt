@@ -96,7 +96,8 @@ pub fn first_common(words: &[u64], other: &[u64]) -> Option<usize>
 // The word at an index without the bits of the numbers below `from`.
 fn word_from(words: &[u64], index: usize, from: usize) -> u64
     requires { from / 64 ≤ index }
-    ensures { (j : ℕ) → j < 64 → bit_of result j ≡ (nat_le from (64 * index + j) && bit_of (slice_index words.now index) j) }
+    ensures { (j : ℕ) → j < 64 →
+        bit_of result j ≡ (nat_le from (64 * index + j) && bit_of (slice_index words.now index) j) }
 {
     let word = word_at(words, index);
     if index == from / WORD_BITS {
@@ -162,7 +163,8 @@ pub fn compare(words: &[u64], other: &[u64]) -> Ordering
 
 // Feeds a hasher the words.
 pub fn hash<H: Hasher>(words: &[u64], state: &mut H)
-    ensures { state.new ≡ fold H.write state.old (flat_map fed.u64 (words_of (length words.now) (numbers_of words.now))) }
+    ensures { let fed_words = words_of (length words.now) (numbers_of words.now) in
+        state.new ≡ fold H.write state.old (flat_map fed.u64 fed_words) }
 {
     for word in words {
         word.hash(state);
