@@ -2,7 +2,8 @@
 use Rattle.std.proofs.Common.{◌≡◌, ◌≢◌, ℕ, zero, suc, ◌+◌, ◌<◌, ◌≤◌, Bool, true, false, not, cond, ◌&&◌, ◌||◌, Some, None, ⊎_elim, List, [], ◌∷◌, length, get_or, eqb, ltb, leb, refl, sym, ap, ◌∙◌, subst, arith}
 use Rattle.std.proofs.lemmas.Bool.{true≢false, false≢true, eqb-true, eqb-false, eq-eqb, ne_eqb, ltb-true, ltb-false, le-leb, lt-leb, leb-true, leb-false, or_cases, and_parts, and_from, cases_Bool, cases_eq, or_left, or_right}
 use Rattle.std.specs.List.{filter, find, Contains}
-use Rattle.mf_set.specs.Numbers.{has, IsAscendingFrom, with_number, without_number, union, meet, is_subset}
+use Rattle.mf_set.specs.Order.{same_set}
+use Rattle.mf_set.specs.Numbers.{Numbers, has, IsAscendingFrom, with_number, without_number, union, meet, is_subset}
 
 -- a number of an ascending list is not below its start
 pub has_from_low : (low : ℕ) (xs : List ℕ) (n : ℕ) → IsAscendingFrom low xs → has xs n ≡ true → low ≤ n
@@ -47,6 +48,10 @@ same_from_members low (x ∷ xs) (y ∷ ys) u v h =
     let v' : IsAscendingFrom (suc x) ys = subst (λ z. IsAscendingFrom (suc z) ys) same v.1 in
     let h' : (n : ℕ) → has (x ∷ xs) n ≡ has (x ∷ ys) n = λ n. subst (λ z. has (x ∷ xs) n ≡ has (z ∷ ys) n) same (h n) in
     ap (λ zs. x ∷ zs) (same_from_members (suc x) xs ys u.1 v' (has_rest x xs ys u.1 v' h')) ∙ ap (λ z. z ∷ ys) (sym same)
+
+-- two sets of one room with the same members are equal
+pub same_set-from_members : (s t : Numbers) → s.room ≡ t.room → IsAscendingFrom 0 s.items → IsAscendingFrom 0 t.items → ((n : ℕ) → has s.items n ≡ has t.items n) → s ≡ t
+same_set-from_members s t e u v h = same_set s t e (same_from_members 0 s.items t.items u v h)
 
 -- ---- the members of what each call leaves
 choose : (p : ℕ → Bool) (x n : ℕ) (r : Bool) (xs : List ℕ) → has xs n ≡ (r && p n) → has (cond (p x) (x ∷ xs) xs) n ≡ ((eqb x n || r) && p n)
