@@ -1,0 +1,7 @@
+pub mod NumberLaws
+pub mod WordLaws
+pub mod OrderLaws
+pub mod CountLaws
+pub mod InverseLaws
+pub mod SetLaws
+pub mod Examples

@@ -1,0 +1,14 @@
+use Rattle.std.proofs.Common.{◌≡◌, ℕ, ◌||◌, eqb, ap, ◌∙◌, subst}
+use Rattle.mf_set.specs.Numbers.{Numbers, with_number}
+use Rattle.mf_set.specs.Words.{has_bit}
+use Rattle.mf_set.proofs.SetLaws.{set_of, written_back, numbers_of-insert}
+use Rattle.mf_set.proofs.bit_set.BitSet.insert.Goals as goal
+
+pub returns : goal.returns
+returns c =
+    let us = c.self.inside.words.items in
+    let bits : (n : ℕ) → has_bit c.insert.new.words n ≡ (eqb c.args.k n || has_bit us n) =
+    subst (λ ws. (n : ℕ) → has_bit c.insert.new.words n ≡ (eqb c.args.k n || has_bit ws n)) c.as_mut_slice.ensures.value c.insert.ensures in
+    ap (set_of c.self.inside.room) (written_back c.self.inside.words.len us c.insert.new.words (c.insert.auto.words ∙ c.as_mut_slice.ensures.len))
+    ∙ ap (λ xs. let s : Numbers = record { items = xs; room = c.self.inside.room } in s) (numbers_of-insert us c.insert.new.words c.args.k bits)
+    ∙ ap (λ (s : Numbers). let t : Numbers = record s { items = with_number s.items c.args.k } in t) c.self.view_is
