@@ -4,4 +4,5 @@ pub mod ReadsLemmas
 pub mod ScanExamples
 pub mod ScanLemmas
 pub mod ScanLoop
+pub mod SoundLemmas
 pub mod VarLemmas

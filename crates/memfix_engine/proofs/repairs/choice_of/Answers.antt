@@ -15,5 +15,4 @@ loop-var-preserved c =
 pub returns-clause-ascending : goal.returns-clause-ascending
 returns-clause-ascending c =
     let puts : c.loop-var.puts ≡ map (put_of c.saturating_sub-gap.result) (range_with_len 0 c.loop-var.var) = c.loop-var.invariant in
-    let ascending : ascends c.loop-var.puts ≡ true = ap ascends puts ∙ ascends-range c.saturating_sub-gap.result 0 c.loop-var.var in
-    subst IsTrue (sym ascending) tt
+    ap ascends puts ∙ ascends-range c.saturating_sub-gap.result 0 c.loop-var.var
