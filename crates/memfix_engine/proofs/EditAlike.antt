@@ -1,30 +1,27 @@
 -- A straight program with the choice's frees before its return is alike its filling by that choice.
-use Rattle.std.proofs.Common.{◌≡◌, ◌≢◌, ℕ, ◌+◌, ◌≤◌, false, true, ◌==◌, List, [], ◌∷◌, ◌++◌, length, map, Some, None, refl, sym, ◌∙◌, ap, arith, codes, ℤ}
+use Rattle.std.proofs.Common.{◌≡◌, ◌≢◌, ℕ, ◌+◌, ◌≤◌, false, true, List, [], ◌∷◌, ◌++◌, length, map, Some, refl, sym, ◌∙◌, ap, arith, codes, ℤ}
 use Rattle.std.proofs.lemmas.Bool.{ne_eqb}
 use Rattle.std.proofs.lemmas.List.{map-append}
 use Rattle.std.specs.List.{range_with_len}
 use Rattle.c_tree.specs.declared.choice.Put.{Put}
-use Rattle.c_tree.specs.declared.choice.Choice.{Choice}
 use Rattle.c_tree.specs.declared.expr.Expr.{Expr, roll-Expr, fold-roll-Expr}
 use Rattle.c_tree.specs.declared.expr.Expr.TheVariants as expr
 use Rattle.c_tree.specs.declared.expr.Expr.TheOpen.{Const}
-use Rattle.c_tree.specs.declared.program.Block.{Block, Block-F, roll-Block}
-use Rattle.c_tree.specs.declared.program.Piece.{Piece, Piece-F, roll-Piece}
-use Rattle.c_tree.specs.declared.program.Item.{Item, Item-F, roll-Item}
+use Rattle.c_tree.specs.declared.program.Block.{Block, roll-Block}
+use Rattle.c_tree.specs.declared.program.Piece.{Piece}
+use Rattle.c_tree.specs.declared.program.Item.{Item, roll-Item}
 use Rattle.c_tree.specs.declared.program.Item.TheVariants as item
 use Rattle.c_tree.specs.declared.program.Item.TheOpen as layer
-use Rattle.c_tree.specs.declared.program.Arm.{Arm}
 use Rattle.c_tree.specs.declared.program.Gap.{Gap}
 use Rattle.c_tree.specs.declared.program.Free.{Free}
 use Rattle.c_tree.specs.declared.program.Declr.{Declr}
 use Rattle.c_tree.specs.declared.program.Simple.{Simple}
 use Rattle.c_tree.specs.declared.program.Call.{Call}
 use Rattle.c_tree.specs.declared.program.Right.TheVariants as right
-use Rattle.c_tree.specs.declared.program.FunDef.{FunDef}
 use Rattle.c_tree.specs.declared.program.VarDef.{VarDef}
 use Rattle.c_tree.specs.declared.program.Program.{Program}
 use Rattle.c_tree.specs.declared.program.Ty.TheVariants.{Int}
-use Rattle.c_tree.specs.Fill.{regapped_block, free_of, puts_at, filled, fill}
+use Rattle.c_tree.specs.Fill.{regapped_block, free_of, filled, fill}
 use Rattle.c_tree.specs.Copies.{regapped_piece, regapped_item}
 use Rattle.c_tree.specs.Alike.{bare_layer, bare_expr, bare_free, bare_gap, bare_block, bare_var, bare, IsAlike}
 use Rattle.c_tree.proofs.Rebuilds.{rebuilt, rebuilt_rebuilds}
@@ -36,9 +33,7 @@ use Rattle.memfix_engine.specs.declared.reading.Reading.{Reading}
 use Rattle.memfix_engine.specs.Reading.{item_piece, gap_of, return_of, result_of, body_of, main_of, whole_of}
 use Rattle.memfix_engine.specs.Repair.{put_of, choice_of}
 use Rattle.memfix_engine.specs.Straight.{IsStraight, declares, stores, shows, empty_gap, Straight, none, more, IsSound}
-use Rattle.memfix_engine.proofs.EditText.{straight_puts, puts_elsewhere, puts_there}
-
--- the gaps of items, pieces and blocks
+use Rattle.memfix_engine.proofs.EditText.{straight_puts, puts_elsewhere, puts_there, return_puts, return_piece}
 
 -- items with no blocks have no gaps
 
@@ -94,28 +89,22 @@ filled_pieces g xs k n l _ (more {m = m} {i = i} {ps = ps} start end s t) h =
 abbrev with_frees : Reading → List Free → Reading
 with_frees r frees = record r { frees = frees }
 
-abbrev puts_of : Reading → List Put
-puts_of r = map (put_of (length r.pieces)) (range_with_len 0 (length r.vars))
-
-abbrev return_piece : Draft → Reading → Piece
-return_piece d r = item_piece (gap_of r) (return_of d) d.return_at d.return_end
-
 abbrev body_with : Draft → List Piece → Gap → Block
 body_with d ps last = roll-Block (record { items = ps; last_gap = last; braced = true; start = d.brace_at; end = d.close_end })
 
 filled_body : (d : Draft) (r : Reading) → IsSound r
-    → regapped_block (filled (puts_of r)) (body_of d r) ≡ body_of d (with_frees r (map free_of (puts_of r)))
+    → regapped_block (filled (return_puts r)) (body_of d r) ≡ body_of d (with_frees r (map free_of (return_puts r)))
 filled_body d r sound =
     let other : length r.pieces ≢ length r.pieces + 1 = omega arith in
     let within : 0 + length r.pieces ≤ length r.pieces = omega arith in
-    (rebuilt_rebuilds (gap_layers (filled (puts_of r)))).block (record { items = r.pieces ++ return_piece d r ∷ []; last_gap = empty_gap (length r.pieces + 1); braced = true; start = d.brace_at; end = d.close_end })
-    ∙ ap (body_with d (map (regapped_piece (filled (puts_of r))) (r.pieces ++ return_piece d r ∷ []))) (filled_elsewhere (length r.pieces) (length r.pieces + 1) (range_with_len 0 (length r.vars)) other)
-    ∙ ap (λ (ps : List Piece). body_with d ps (empty_gap (length r.pieces + 1))) (map-append (regapped_piece (filled (puts_of r))) r.pieces (return_piece d r ∷ []))
-    ∙ ap (λ (ps : List Piece). body_with d (ps ++ regapped_piece (filled (puts_of r)) (return_piece d r) ∷ []) (empty_gap (length r.pieces + 1)))
-        (filled_pieces (length r.pieces) (range_with_len 0 (length r.vars)) 0 0 (length r.vars) r.pieces sound.pieces within)
+    (rebuilt_rebuilds (gap_layers (filled (return_puts r)))).block (record { items = r.pieces ++ return_piece d r ∷ []; last_gap = empty_gap (length r.pieces + 1); braced = true; start = d.brace_at; end = d.close_end })
+    ∙ ap (body_with d (map (regapped_piece (filled (return_puts r))) (r.pieces ++ return_piece d r ∷ []))) (filled_elsewhere (length r.pieces) (length r.pieces + 1) (range_with_len 0 (length r.vars)) other)
+    ∙ ap (λ (ps : List Piece). body_with d ps (empty_gap (length r.pieces + 1))) (map-append (regapped_piece (filled (return_puts r))) r.pieces (return_piece d r ∷ []))
+    ∙ ap (λ (ps : List Piece). body_with d (ps ++ regapped_piece (filled (return_puts r)) (return_piece d r) ∷ []) (empty_gap (length r.pieces + 1)))
+    (filled_pieces (length r.pieces) (range_with_len 0 (length r.vars)) 0 0 (length r.vars) r.pieces sound.pieces within)
     ∙ ap (λ (p : Piece). body_with d (r.pieces ++ p ∷ []) (empty_gap (length r.pieces + 1)))
-        (regapped_item_piece (filled (puts_of r)) (gap_of r) (gap_of (with_frees r (map free_of (puts_of r)))) (return_of d) d.return_at d.return_end
-        (filled_there (length r.pieces) r.frees (range_with_len 0 (length r.vars))) (regapped_return (filled (puts_of r)) d))
+    (regapped_item_piece (filled (return_puts r)) (gap_of r) (gap_of (with_frees r (map free_of (return_puts r)))) (return_of d) d.return_at d.return_end
+    (filled_there (length r.pieces) r.frees (range_with_len 0 (length r.vars))) (regapped_return (filled (return_puts r)) d))
 
 abbrev whole_with : Draft → Reading → Block → Program
 whole_with d r body = record {
@@ -171,8 +160,8 @@ bare_of_body : (d : Draft) (r : Reading) → bare_block (body_of d r) ≡ bare_b
 bare_of_body d r =
     (rebuilt_rebuilds bare_layers).block (record { items = r.pieces ++ return_piece d r ∷ []; last_gap = empty_gap (length r.pieces + 1); braced = true; start = d.brace_at; end = d.close_end })
     ∙ ap (λ (ps : List Piece). roll-Block (record { items = ps; last_gap = empty_gap (length r.pieces + 1); braced = false; start = 0; end = 0 }))
-        (map-append (rebuilt bare_layers).piece r.pieces (return_piece d r ∷ [])
-        ∙ ap (λ (p : Piece). map (rebuilt bare_layers).piece r.pieces ++ p ∷ []) (bare_of_return_piece d r))
+    (map-append (rebuilt bare_layers).piece r.pieces (return_piece d r ∷ [])
+    ∙ ap (λ (p : Piece). map (rebuilt bare_layers).piece r.pieces ++ p ∷ []) (bare_of_return_piece d r))
 
 abbrev bare_whole : ℕ → List VarDef → Block → Program
 bare_whole gaps vars body = record {
@@ -205,10 +194,10 @@ pub alike_straight : (d d' : Draft) (r : Reading) (frees : List Free) → IsSoun
     → map bare_free frees ≡ map free_of (map (put_of (length r.pieces)) (range_with_len 0 (length r.vars)))
     → IsAlike (whole_of d' (record r { frees = frees })) (fill (whole_of d r) (choice_of (whole_of d r)))
 alike_straight d d' r frees sound number there =
-    let same_frees : map bare_free frees ≡ map bare_free (map free_of (puts_of r)) = there ∙ sym (bare_frees (length r.pieces) (range_with_len 0 (length r.vars))) in
+    let same_frees : map bare_free frees ≡ map bare_free (map free_of (return_puts r)) = there ∙ sym (bare_frees (length r.pieces) (range_with_len 0 (length r.vars))) in
     bare_of_whole d' (with_frees r frees)
     ∙ ap (λ (vs : List VarDef). bare_whole (length r.pieces + 2) vs (bare_body d'.number r.pieces (map bare_free frees))) (same_vars d d' r)
     ∙ ap (λ (n : ℤ). bare_whole (length r.pieces + 2) (bare_vars d r) (bare_body n r.pieces (map bare_free frees))) number
     ∙ ap (λ (fs : List Free). bare_whole (length r.pieces + 2) (bare_vars d r) (bare_body d.number r.pieces fs)) same_frees
-    ∙ sym (bare_of_whole d (with_frees r (map free_of (puts_of r))))
+    ∙ sym (bare_of_whole d (with_frees r (map free_of (return_puts r))))
     ∙ ap bare (sym (fill_straight d r sound))

@@ -1,15 +1,14 @@
 -- The edited text of a straight program: all its frees stand before the return.
-use Rattle.std.proofs.Common.{◌≡◌, ◌≢◌, ℕ, zero, suc, ◌+◌, ◌-◌, ◌<◌, ◌≤◌, Bool, true, false, not, ◌==◌, List, [], ◌∷◌, ◌++◌, length, take, drop, map, Option, Some, None, option_map, refl, sym, ◌∙◌, ap, subst, arith, append_assoc, length-append}
+use Rattle.std.proofs.Common.{◌≡◌, ◌≢◌, ℕ, ◌+◌, ◌-◌, ◌≤◌, Bool, true, false, ◌==◌, List, [], ◌∷◌, ◌++◌, length, take, drop, map, Option, Some, option_map, refl, sym, ◌∙◌, ap, arith, append_assoc, length-append}
 use Rattle.std.proofs.Math.Dec.{eqb-suc-zero}
 use Rattle.std.proofs.lemmas.Bool.{eq-eqb, ne_eqb}
 use Rattle.std.proofs.lemmas.List.{append-nil, map-append, take-append-drop}
 use Rattle.std.proofs.lemmas.List.Elements.{filter-append}
-use Rattle.std.specs.Prelude.{cond, filter, slice_get, unwrap_or, nat_eq}
+use Rattle.std.specs.Prelude.{cond, filter, slice_get, unwrap_or}
 use Rattle.std.specs.List.{flat_map, range_with_len}
 use Rattle.c_tree.specs.declared.choice.Put.{Put}
-use Rattle.c_tree.specs.declared.choice.Choice.{Choice}
-use Rattle.c_tree.specs.declared.program.Block.{Block, Block-F, roll-Block, out-Block, out-roll-Block}
-use Rattle.c_tree.specs.declared.program.Piece.{Piece, Piece-F, roll-Piece, out-Piece, out-roll-Piece}
+use Rattle.c_tree.specs.declared.program.Block.{Block, Block-F, out-roll-Block}
+use Rattle.c_tree.specs.declared.program.Piece.{Piece, Piece-F, out-roll-Piece}
 use Rattle.c_tree.specs.declared.program.Item.{Item}
 use Rattle.c_tree.specs.declared.program.Arm.{Arm}
 use Rattle.c_tree.specs.declared.program.Gap.{Gap}
@@ -20,9 +19,9 @@ use Rattle.memfix_engine.specs.declared.reading.Reading.{Reading}
 use Rattle.memfix_engine.specs.declared.edit.Insertion.{Insertion}
 use Rattle.memfix_engine.specs.Scan.{free_text}
 use Rattle.memfix_engine.specs.Reading.{item_piece, gap_of, return_of, result_of, body_of, whole_of}
-use Rattle.memfix_engine.specs.Edit.{name_of, frees_of, before_item, before_brace, block_insertions, insertions, is_some_text, inserted, edited}
+use Rattle.memfix_engine.specs.Edit.{name_of, frees_of, before_item, block_insertions, insertions, is_some_text, inserted, edited}
 use Rattle.memfix_engine.specs.Repair.{put_of, choice_of}
-use Rattle.memfix_engine.specs.Straight.{IsStraight, empty_gap, Straight, none, more, IsSound}
+use Rattle.memfix_engine.specs.Straight.{empty_gap, Straight, none, more, IsSound}
 
 -- lists
 
@@ -120,46 +119,48 @@ alone front i at h =
     ∙ filter-append is_some_text front (i ∷ insertion at [] ∷ [])
     ∙ ap (λ (is : List Insertion). is ++ filter is_some_text (i ∷ insertion at [] ∷ [])) h
 
-abbrev puts_of : Reading → List Put
-puts_of r = map (put_of (length r.pieces)) (range_with_len 0 (length r.vars))
+-- the puts of the choice, all in the gap before the return
+abbrev pub return_puts : Reading → List Put
+return_puts r = map (put_of (length r.pieces)) (range_with_len 0 (length r.vars))
 
+-- and their text
 abbrev text_of : Reading → List ℕ
 text_of r = flat_map free_text (map (λ v. v.name) r.vars)
 
 abbrev pieces_text : Draft → Reading → List Piece → List Insertion
-pieces_text d r ps = map (before_item (r.vars ++ result_of d ∷ []) (puts_of r)) ps
+pieces_text d r ps = map (before_item (r.vars ++ result_of d ∷ []) (return_puts r)) ps
 
-abbrev return_piece : Draft → Reading → Piece
+abbrev pub return_piece : Draft → Reading → Piece
 return_piece d r = item_piece (gap_of r) (return_of d) d.return_at d.return_end
 
 abbrev brace_text : Draft → Reading → List Put → List Insertion
 brace_text d r qs = insertion (d.close_end - 1) (frees_of (r.vars ++ result_of d ∷ []) qs) ∷ []
 
-before_return : (d : Draft) (r : Reading) → before_item (r.vars ++ result_of d ∷ []) (puts_of r) (return_piece d r) ≡ insertion d.return_at (text_of r)
+before_return : (d : Draft) (r : Reading) → before_item (r.vars ++ result_of d ∷ []) (return_puts r) (return_piece d r) ≡ insertion d.return_at (text_of r)
 before_return d r =
-    before_piece (r.vars ++ result_of d ∷ []) (puts_of r) (gap_of r) (return_of d) d.return_at d.return_end
+    before_piece (r.vars ++ result_of d ∷ []) (return_puts r) (gap_of r) (return_of d) d.return_at d.return_end
     ∙ ap (λ (qs : List Put). insertion d.return_at (frees_of (r.vars ++ result_of d ∷ []) qs)) (puts_there (length r.pieces) (range_with_len 0 (length r.vars)))
     ∙ ap (insertion d.return_at) (text_of_all (length r.pieces) r.vars (result_of d ∷ []))
 
-whole_insertions : (d : Draft) (r : Reading) → insertions (whole_of d r) (puts_of r) ≡ (pieces_text d r r.pieces ++ insertion d.return_at (text_of r) ∷ []) ++ brace_text d r []
+whole_insertions : (d : Draft) (r : Reading) → insertions (whole_of d r) (return_puts r) ≡ (pieces_text d r r.pieces ++ insertion d.return_at (text_of r) ∷ []) ++ brace_text d r []
 whole_insertions d r =
     let other : length r.pieces ≢ length r.pieces + 1 = omega arith in
-    let last : puts_at (puts_of r) (length r.pieces + 1) ≡ [] =
+    let last : puts_at (return_puts r) (length r.pieces + 1) ≡ [] =
     puts_elsewhere (length r.pieces) (length r.pieces + 1) (range_with_len 0 (length r.vars)) (ne_eqb (length r.pieces) (length r.pieces + 1) other) in
-    append-nil (block_insertions (r.vars ++ result_of d ∷ []) (puts_of r) (body_of d r))
-    ∙ ap (λ (b : Block-F Item Arm Block Piece). pieces_text d r b.items ++ insertion (b.end - 1) (frees_of (r.vars ++ result_of d ∷ []) (puts_at (puts_of r) b.last_gap.number)) ∷ [])
-        (out-roll-Block (record { items = r.pieces ++ return_piece d r ∷ []; last_gap = empty_gap (length r.pieces + 1); braced = true; start = d.brace_at; end = d.close_end }))
+    append-nil (block_insertions (r.vars ++ result_of d ∷ []) (return_puts r) (body_of d r))
+    ∙ ap (λ (b : Block-F Item Arm Block Piece). pieces_text d r b.items ++ insertion (b.end - 1) (frees_of (r.vars ++ result_of d ∷ []) (puts_at (return_puts r) b.last_gap.number)) ∷ [])
+    (out-roll-Block (record { items = r.pieces ++ return_piece d r ∷ []; last_gap = empty_gap (length r.pieces + 1); braced = true; start = d.brace_at; end = d.close_end }))
     ∙ ap (λ (qs : List Put). pieces_text d r (r.pieces ++ return_piece d r ∷ []) ++ brace_text d r qs) last
-    ∙ ap (λ (is : List Insertion). is ++ brace_text d r []) (map-append (before_item (r.vars ++ result_of d ∷ []) (puts_of r)) r.pieces (return_piece d r ∷ []))
+    ∙ ap (λ (is : List Insertion). is ++ brace_text d r []) (map-append (before_item (r.vars ++ result_of d ∷ []) (return_puts r)) r.pieces (return_piece d r ∷ []))
     ∙ ap (λ (i : Insertion). (pieces_text d r r.pieces ++ i ∷ []) ++ brace_text d r []) (before_return d r)
 
 straight_insertions : (d : Draft) (r : Reading) → IsSound r
-    → filter is_some_text (insertions (whole_of d r) (puts_of r)) ≡ filter is_some_text (insertion d.return_at (text_of r) ∷ [])
+    → filter is_some_text (insertions (whole_of d r) (return_puts r)) ≡ filter is_some_text (insertion d.return_at (text_of r) ∷ [])
 straight_insertions d r sound =
     let within : 0 + length r.pieces ≤ length r.pieces = omega arith in
     ap (filter is_some_text) (whole_insertions d r)
     ∙ alone (pieces_text d r r.pieces) (insertion d.return_at (text_of r)) (d.close_end - 1)
-        (pieces_no_text (r.vars ++ result_of d ∷ []) (length r.pieces) (range_with_len 0 (length r.vars)) 0 0 (length r.vars) r.pieces sound.pieces within)
+    (pieces_no_text (r.vars ++ result_of d ∷ []) (length r.pieces) (range_with_len 0 (length r.vars)) 0 0 (length r.vars) r.pieces sound.pieces within)
 
 pub edited_straight : (b : List ℕ) (d : Draft) (r : Reading) → IsSound r
     → edited b (whole_of d r) (choice_of (whole_of d r)) ≡ take d.return_at b ++ flat_map free_text (map (λ v. v.name) r.vars) ++ drop d.return_at b
