@@ -1,4 +1,6 @@
+pub mod EditAlike
 pub mod EditLemmas
+pub mod EditText
 pub mod FormLemmas
 pub mod ReadsLemmas
 pub mod ScanExamples
