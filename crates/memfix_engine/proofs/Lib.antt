@@ -3,6 +3,7 @@ pub mod EditLemmas
 pub mod EditText
 pub mod FormLemmas
 pub mod ReadsLemmas
+pub mod RepairLemmas
 pub mod ScanExamples
 pub mod ScanLemmas
 pub mod ScanLoop

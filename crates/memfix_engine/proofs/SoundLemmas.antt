@@ -154,16 +154,15 @@ kept_by r q s (deed.Show t) h p l g = item_kept r q s (shown t s.start) t.name (
 kept_by r q s (deed.Release t) h p l g = absurd cc
 kept_by r q s deed.Empty h p l g = absurd cc
 
-mutual
-  read_kept : (ss : List Step) (r q : Reading) → AreLettered ss → list_all (λ s. is_plain_deed s.deed) ss ≡ true → IsKept r → read_from r ss ≡ Some q → IsKept q
-  read_kept [] r q l p h g = subst IsKept (some_is r q g) h
-  read_kept (s ∷ ss) r q l p h g = read_on ss r q s l p h (stepped r s) refl g
+read_on : (ss : List Step) (r q : Reading) (s : Step) → ((k : Reading) → stepped r s ≡ Some k → read_from k ss ≡ Some q → IsKept q)
+    → (o : Option Reading) → stepped r s ≡ o → option_and_then (λ k. read_from k ss) o ≡ Some q → IsKept q
+read_on ss r q s f None e g = absurd cc
+read_on ss r q s f (Some k) e g = f k e g
 
-  read_on : (ss : List Step) (r q : Reading) (s : Step) → AreLettered (s ∷ ss) → list_all (λ s. is_plain_deed s.deed) (s ∷ ss) ≡ true → IsKept r
-      → (o : Option Reading) → stepped r s ≡ o → option_and_then (λ k. read_from k ss) o ≡ Some q → IsKept q
-  read_on ss r q s l p h None e g = absurd cc
-  read_on ss r q s l p h (Some k) e g =
-      read_kept ss k q l.1 (right_of _ _ p) (kept_by r k s s.deed h (left_of _ _ p) l.0 e) g
+read_kept : (ss : List Step) (r q : Reading) → AreLettered ss → list_all (λ s. is_plain_deed s.deed) ss ≡ true → IsKept r → read_from r ss ≡ Some q → IsKept q
+read_kept [] r q l p h g = subst IsKept (some_is r q g) h
+read_kept (s ∷ ss) r q l p h g =
+    read_on ss r q s (λ k e more. read_kept ss k q l.1 (right_of _ _ p) (kept_by r k s s.deed h (left_of _ _ p) l.0 e) more) (stepped r s) refl g
 
 empty_get : {A : Type 0} (k : ℕ) (v : A) → slice_get [] k ≡ Some v → ⊥
 empty_get zero v h = cc
