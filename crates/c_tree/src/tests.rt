@@ -1,3 +1,6 @@
+ghost use Rattle.std.specs.Prelude.{IfOk};
+ghost use Rattle.c_tree.specs.Fill.{IsAscending};
+
 use crate::{
     Arm, Block, Call, Choice, Declr, Duplicate, Expr, FieldDef, ForHead, Free, FunDef, Gap, Home,
     Item, Op, Oper, Piece, Program, Put, Right, Sign, Simple, Size, Start, StructDef, Ty, VarDef,
@@ -276,10 +279,6 @@ fn returning(alloc: Global, before: Seq<Free>, behind: Seq<Free>) -> Result<Prog
     )
 }
 
-fn put(gap: usize, var: usize, field: Option<usize>) -> Put {
-    Put { gap, var, field }
-}
-
 /// `free(p->f); free(q);` by their numbers 2, 0 and 1.
 fn frees(alloc: Global) -> Result<Seq<Free>, Memory> {
     let mut list = Seq::new(alloc);
@@ -296,14 +295,29 @@ fn frees(alloc: Global) -> Result<Seq<Free>, Memory> {
     Ok(list)
 }
 
+/// Those frees, in the last gap.
+fn choice(alloc: Global) -> Result<Choice, Memory>
+    ensures { IfOk result (λ choice. IsAscending choice) }
+{
+    let field = Put {
+        gap: 1,
+        var: 2,
+        field: Some(0),
+    };
+    let variable = Put {
+        gap: 1,
+        var: 1,
+        field: None,
+    };
+    let puts = Seq::from_slice(alloc, &[field, variable])?;
+    Ok(Choice { puts })
+}
+
 #[test]
 fn fields_are_freed_before_variables(rt: HostRuntime) -> Result<(), Fail> {
     let alloc = rt.alloc();
     let program = returning(alloc, frees(alloc)?, Seq::new(alloc))?;
-    let choice = Choice {
-        puts: Seq::from_slice(alloc, &[put(1, 2, Some(0)), put(1, 1, None)])?,
-    };
-    let filled = fill(alloc, &program, &choice)?;
+    let filled = fill(alloc, &program, &choice(alloc)?)?;
     let expected = returning(alloc, Seq::new(alloc), frees(alloc)?)?;
     assert_eq!(rt; text(alloc, &filled)?, text(alloc, &expected)?);
     Ok(())
