@@ -1,24 +1,21 @@
 -- The test of a block decides whether the bare forms of two blocks without frees are equal.
-use Rattle.std.proofs.Common.{◌≡◌, ℕ, Bool, true, false, ◌==◌, ◌&&◌, List, [], map, Option, Some, None, option_map, refl, ap, sym, subst, ◌∙◌}
+use Rattle.std.proofs.Common.{◌≡◌, ℕ, Bool, false, ◌==◌, ◌&&◌, List, [], map, Option, Some, None, option_map, refl, ap, sym, subst, ◌∙◌}
 use Rattle.std.specs.Bool.{Decides}
 use Rattle.std.specs.Cmp.Lexicographic.{pointwise}
 use Rattle.std.proofs.lemmas.Bool.Decides.{Decides-and, Decides-like, Decides-at, Decides-eqb}
 use Rattle.c_tree.specs.Fill.{emptied, regapped_block}
-use Rattle.c_tree.specs.Alike.{bare_expr, bare_right, bare_declr, bare_head, bare_gap, bare_item, bare_block}
+use Rattle.c_tree.specs.Alike.{bare_expr, bare_right, bare_declr, bare_gap, bare_item, bare_block}
 use Rattle.c_tree.specs.AlikeTest.{option_alike, alike_expr, alike_call, alike_right, alike_declr, alike_simple, alike_head, item_layer, arm_layer, block_layer, piece_layer, on_item, on_arm, on_block, on_piece, alike_item, alike_arm, alike_block, alike_piece}
 use Rattle.c_tree.proofs.Deciders.{pointwise_decides, option_decides, held_decides, held_option_decides}
 use Rattle.c_tree.proofs.AlikeExpr.{expr_decides}
 use Rattle.c_tree.proofs.AlikeParts.{call_decides, right_decides, declr_decides, simple_decides, head_decides}
-use Rattle.c_tree.proofs.Rebuilds.{Maps, Layers, Rebuilds, Joins, in_item, in_arm, in_block, in_piece, rebuilt, rebuilt_rebuilds, after, after_rebuilds, same_block}
+use Rattle.c_tree.proofs.Rebuilds.{Maps, Layers, in_item, in_arm, in_block, in_piece, rebuilt, rebuilt_rebuilds, after, after_rebuilds, same_block}
 use Rattle.c_tree.proofs.Fills.{gap_layers, gaps_commute}
-use Rattle.c_tree.specs.declared.expr.Expr.{Expr}
 use Rattle.c_tree.specs.declared.program.Block.{Block, Block-F, roll-Block, out-Block, out-roll-Block, roll-out-Block, map-Block, fold-roll-Block, ind-Block}
 use Rattle.c_tree.specs.declared.program.Piece.{Piece, Piece-F, roll-Piece, out-Piece, out-roll-Piece, roll-out-Piece, map-Piece, fold-roll-Piece}
 use Rattle.c_tree.specs.declared.program.Item.{Item, Item-F, roll-Item, out-Item, out-roll-Item, roll-out-Item, map-Item, fold-roll-Item}
 use Rattle.c_tree.specs.declared.program.Item.TheOpen.{Declare, Assign, Do, Nest, If, While, For, Break, Continue, Return}
 use Rattle.c_tree.specs.declared.program.Arm.{Arm, Arm-F, roll-Arm, out-Arm, out-roll-Arm, roll-out-Arm, map-Arm, fold-roll-Arm}
-use Rattle.c_tree.specs.declared.program.Declr.{Declr}
-use Rattle.c_tree.specs.declared.program.Right.{Right}
 
 -- no offsets, no frees, and no braces
 

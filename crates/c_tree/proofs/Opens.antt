@@ -1,14 +1,14 @@
 -- The tests of a block and of an `if`, one level opened.
-use Rattle.std.proofs.Common.{◌≡◌, Bool, ◌==◌, ◌&&◌, List, map, Option, Some, None, refl, ap, sym, ◌∙◌}
+use Rattle.std.proofs.Common.{◌≡◌, Bool, ◌==◌, ◌&&◌, List, Option, Some, None, ap, sym, ◌∙◌}
 use Rattle.std.specs.Cmp.Lexicographic.{pointwise}
-use Rattle.c_tree.specs.AlikeTest.{item_layer, arm_layer, block_layer, piece_layer, on_item, on_arm, on_block, on_piece, alike_item, alike_arm, alike_block, alike_piece, option_alike}
+use Rattle.c_tree.specs.AlikeTest.{item_layer, on_item, on_arm, on_block, on_piece, alike_item, alike_arm, alike_block, alike_piece, option_alike}
 use Rattle.c_tree.proofs.Deciders.{applied}
-use Rattle.c_tree.specs.declared.program.Block.{Block, Block-F, out-Block, fold_out-Block}
-use Rattle.c_tree.specs.declared.program.Piece.{Piece, out-Piece}
-use Rattle.c_tree.specs.declared.program.Item.{Item, Item-F, out-Item, map-Item, fold-roll-Item}
+use Rattle.c_tree.specs.declared.program.Block.{Block, out-Block, fold_out-Block}
+use Rattle.c_tree.specs.declared.program.Piece.{Piece}
+use Rattle.c_tree.specs.declared.program.Item.{Item, Item-F, map-Item, fold-roll-Item}
 use Rattle.c_tree.specs.declared.program.Item.TheVariants as item
 use Rattle.c_tree.specs.declared.program.Item.TheOpen.{If}
-use Rattle.c_tree.specs.declared.program.Arm.{Arm, out-Arm}
+use Rattle.c_tree.specs.declared.program.Arm.{Arm}
 
 pub block_opens : (a b : Block) → alike_block a b ≡ (pointwise alike_piece (out-Block a).items (out-Block b).items && ((out-Block a).last_gap.number == (out-Block b).last_gap.number))
 block_opens a b =

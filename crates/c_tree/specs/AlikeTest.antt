@@ -1,5 +1,5 @@
 -- Tests of whether two trees are alike, the frees in their gaps aside.
-use Rattle.std.specs.Prelude.{ℕ, Bool, true, false, ◌==◌, nat_eq, ◌&&◌, List, [], ◌∷◌, Option, Some, None}
+use Rattle.std.specs.Prelude.{Bool, true, false, ◌==◌, nat_eq, ◌&&◌, Option, Some, None}
 use Rattle.std.specs.Ordering.{int_eq}
 use Rattle.std.specs.Cmp.Lexicographic.{pointwise}
 use Rattle.c_tree.specs.declared.expr.Op.{Op}
@@ -15,7 +15,6 @@ use Rattle.c_tree.specs.declared.program.Piece.{Piece, Piece-F, fold-Piece, out-
 use Rattle.c_tree.specs.declared.program.Item.{Item, Item-F, fold-Item, out-Item}
 use Rattle.c_tree.specs.declared.program.Item.TheOpen.{Declare, Assign, Do, Nest, If, While, For, Break, Continue, Return}
 use Rattle.c_tree.specs.declared.program.Arm.{Arm, Arm-F, fold-Arm, out-Arm}
-use Rattle.c_tree.specs.declared.program.Gap.{Gap}
 use Rattle.c_tree.specs.declared.program.Declr.{Declr}
 use Rattle.c_tree.specs.declared.program.Simple.{Simple}
 use Rattle.c_tree.specs.declared.program.Right.{Right}
