@@ -1,24 +1,21 @@
 -- The test of a block decides whether the bare forms of two blocks without frees are equal.
-use Rattle.std.proofs.Common.{◌≡◌, ℕ, Bool, true, false, ◌==◌, ◌&&◌, List, [], map, Option, Some, None, option_map, refl, ap, sym, subst, ◌∙◌}
+use Rattle.std.proofs.Common.{◌≡◌, ℕ, Bool, false, ◌==◌, ◌&&◌, List, [], map, Option, Some, None, option_map, refl, ap, sym, subst, ◌∙◌}
 use Rattle.std.specs.Bool.{Decides}
 use Rattle.std.specs.Cmp.Lexicographic.{pointwise}
 use Rattle.std.proofs.lemmas.Bool.Decides.{Decides-and, Decides-like, Decides-at, Decides-eqb}
 use Rattle.c_tree.specs.Fill.{emptied, regapped_block}
-use Rattle.c_tree.specs.Alike.{bare_expr, bare_right, bare_declr, bare_head, bare_gap, bare_item, bare_block}
-use Rattle.c_tree.specs.AlikeTest.{option_alike, alike_expr, alike_call, alike_right, alike_declr, alike_simple, alike_head, item_layer, arm_layer, block_layer, piece_layer, alike_item, alike_arm, alike_block, alike_piece}
+use Rattle.c_tree.specs.Alike.{bare_expr, bare_right, bare_declr, bare_gap, bare_item, bare_block}
+use Rattle.c_tree.specs.AlikeTest.{option_alike, alike_expr, alike_call, alike_right, alike_declr, alike_simple, alike_head, item_layer, arm_layer, block_layer, piece_layer, on_item, on_arm, on_block, on_piece, alike_item, alike_arm, alike_block, alike_piece}
 use Rattle.c_tree.proofs.Deciders.{pointwise_decides, option_decides, held_decides, held_option_decides}
 use Rattle.c_tree.proofs.AlikeExpr.{expr_decides}
 use Rattle.c_tree.proofs.AlikeParts.{call_decides, right_decides, declr_decides, simple_decides, head_decides}
-use Rattle.c_tree.proofs.Rebuilds.{Maps, Layers, Rebuilds, Joins, in_item, in_arm, in_block, in_piece, rebuilt, rebuilt_rebuilds, after, after_rebuilds, same_block}
+use Rattle.c_tree.proofs.Rebuilds.{Maps, Layers, in_item, in_arm, in_block, in_piece, rebuilt, rebuilt_rebuilds, after, after_rebuilds, same_block}
 use Rattle.c_tree.proofs.Fills.{gap_layers, gaps_commute}
-use Rattle.c_tree.specs.declared.expr.Expr.{Expr}
 use Rattle.c_tree.specs.declared.program.Block.{Block, Block-F, roll-Block, out-Block, out-roll-Block, roll-out-Block, map-Block, fold-roll-Block, ind-Block}
 use Rattle.c_tree.specs.declared.program.Piece.{Piece, Piece-F, roll-Piece, out-Piece, out-roll-Piece, roll-out-Piece, map-Piece, fold-roll-Piece}
 use Rattle.c_tree.specs.declared.program.Item.{Item, Item-F, roll-Item, out-Item, out-roll-Item, roll-out-Item, map-Item, fold-roll-Item}
 use Rattle.c_tree.specs.declared.program.Item.TheOpen.{Declare, Assign, Do, Nest, If, While, For, Break, Continue, Return}
 use Rattle.c_tree.specs.declared.program.Arm.{Arm, Arm-F, roll-Arm, out-Arm, out-roll-Arm, roll-out-Arm, map-Arm, fold-roll-Arm}
-use Rattle.c_tree.specs.declared.program.Declr.{Declr}
-use Rattle.c_tree.specs.declared.program.Right.{Right}
 
 -- no offsets, no frees, and no braces
 
@@ -153,7 +150,7 @@ step_item : (x : Item-F Item Arm Block Piece) (y : Item-F ((i : Item) × Decided
 step_item x y is b =
     let m : Item-F Item Arm Block Piece = out-Item b in
     let layer : ItemTest x m = subst (λ (z : Item-F Item Arm Block Piece). ItemTest z m) is (item_decides y m) in
-    let test : alike_item (roll-Item x) b ≡ item_layer (tested_item x) m = ap (λ (f : Item → Bool). f b) (fold-roll-Item (Item → Bool) (Arm → Bool) (Block → Bool) (Piece → Bool) (λ l x. item_layer l (out-Item x)) (λ l x. arm_layer l (out-Arm x)) (λ l x. block_layer l (out-Block x)) (λ l x. piece_layer l (out-Piece x)) x) in
+    let test : alike_item (roll-Item x) b ≡ item_layer (tested_item x) m = ap (λ (f : Item → Bool). f b) (fold-roll-Item (Item → Bool) (Arm → Bool) (Block → Bool) (Piece → Bool) on_item on_arm on_block on_piece x) in
     let left : outline.item (roll-Item x) ≡ roll-Item (bare_item (in_item outline x)) = (rebuilt_rebuilds outline_layers).item x in
     let right : outline.item b ≡ roll-Item (bare_item (in_item outline m)) = ap outline.item (sym (roll-out-Item b)) ∙ (rebuilt_rebuilds outline_layers).item m in
     Decides-at (alike_item (roll-Item x) b) (item_layer (tested_item x) m) test
@@ -166,7 +163,7 @@ step_arm : (x : Arm-F Item Arm Block Piece) (y : Arm-F ((i : Item) × DecidedIte
 step_arm x y is b =
     let m : Arm-F Item Arm Block Piece = out-Arm b in
     let layer : ArmTest x m = subst (λ (z : Arm-F Item Arm Block Piece). ArmTest z m) is (arm_decides y m) in
-    let test : alike_arm (roll-Arm x) b ≡ arm_layer (tested_arm x) m = ap (λ (f : Arm → Bool). f b) (fold-roll-Arm (Item → Bool) (Arm → Bool) (Block → Bool) (Piece → Bool) (λ l x. item_layer l (out-Item x)) (λ l x. arm_layer l (out-Arm x)) (λ l x. block_layer l (out-Block x)) (λ l x. piece_layer l (out-Piece x)) x) in
+    let test : alike_arm (roll-Arm x) b ≡ arm_layer (tested_arm x) m = ap (λ (f : Arm → Bool). f b) (fold-roll-Arm (Item → Bool) (Arm → Bool) (Block → Bool) (Piece → Bool) on_item on_arm on_block on_piece x) in
     let left : outline.arm (roll-Arm x) ≡ roll-Arm (outline_layers.arm (in_arm outline x)) = (rebuilt_rebuilds outline_layers).arm x in
     let right : outline.arm b ≡ roll-Arm (outline_layers.arm (in_arm outline m)) = ap outline.arm (sym (roll-out-Arm b)) ∙ (rebuilt_rebuilds outline_layers).arm m in
     Decides-at (alike_arm (roll-Arm x) b) (arm_layer (tested_arm x) m) test
@@ -179,7 +176,7 @@ step_block : (x : Block-F Item Arm Block Piece) (y : Block-F ((i : Item) × Deci
 step_block x y is b =
     let m : Block-F Item Arm Block Piece = out-Block b in
     let layer : BlockTest x m = subst (λ (z : Block-F Item Arm Block Piece). BlockTest z m) is (block_decides_layer y m) in
-    let test : alike_block (roll-Block x) b ≡ block_layer (tested_block x) m = ap (λ (f : Block → Bool). f b) (fold-roll-Block (Item → Bool) (Arm → Bool) (Block → Bool) (Piece → Bool) (λ l x. item_layer l (out-Item x)) (λ l x. arm_layer l (out-Arm x)) (λ l x. block_layer l (out-Block x)) (λ l x. piece_layer l (out-Piece x)) x) in
+    let test : alike_block (roll-Block x) b ≡ block_layer (tested_block x) m = ap (λ (f : Block → Bool). f b) (fold-roll-Block (Item → Bool) (Arm → Bool) (Block → Bool) (Piece → Bool) on_item on_arm on_block on_piece x) in
     let left : outline.block (roll-Block x) ≡ roll-Block (outline_layers.block (in_block outline x)) = (rebuilt_rebuilds outline_layers).block x in
     let right : outline.block b ≡ roll-Block (outline_layers.block (in_block outline m)) = ap outline.block (sym (roll-out-Block b)) ∙ (rebuilt_rebuilds outline_layers).block m in
     Decides-at (alike_block (roll-Block x) b) (block_layer (tested_block x) m) test
@@ -192,7 +189,7 @@ step_piece : (x : Piece-F Item Arm Block Piece) (y : Piece-F ((i : Item) × Deci
 step_piece x y is b =
     let m : Piece-F Item Arm Block Piece = out-Piece b in
     let layer : PieceTest x m = subst (λ (z : Piece-F Item Arm Block Piece). PieceTest z m) is (piece_decides y m) in
-    let test : alike_piece (roll-Piece x) b ≡ piece_layer (tested_piece x) m = ap (λ (f : Piece → Bool). f b) (fold-roll-Piece (Item → Bool) (Arm → Bool) (Block → Bool) (Piece → Bool) (λ l x. item_layer l (out-Item x)) (λ l x. arm_layer l (out-Arm x)) (λ l x. block_layer l (out-Block x)) (λ l x. piece_layer l (out-Piece x)) x) in
+    let test : alike_piece (roll-Piece x) b ≡ piece_layer (tested_piece x) m = ap (λ (f : Piece → Bool). f b) (fold-roll-Piece (Item → Bool) (Arm → Bool) (Block → Bool) (Piece → Bool) on_item on_arm on_block on_piece x) in
     let left : outline.piece (roll-Piece x) ≡ roll-Piece (outline_layers.piece (in_piece outline x)) = (rebuilt_rebuilds outline_layers).piece x in
     let right : outline.piece b ≡ roll-Piece (outline_layers.piece (in_piece outline m)) = ap outline.piece (sym (roll-out-Piece b)) ∙ (rebuilt_rebuilds outline_layers).piece m in
     Decides-at (alike_piece (roll-Piece x) b) (piece_layer (tested_piece x) m) test

@@ -1,5 +1,5 @@
 -- The test of a program decides whether two programs without frees are alike.
-use Rattle.std.proofs.Common.{◌≡◌, ℕ, Bool, ◌==◌, nat_eq, ◌&&◌, List, map, Option, refl, ap, sym, ◌∙◌}
+use Rattle.std.proofs.Common.{◌≡◌, ℕ, ◌==◌, nat_eq, ◌&&◌, List, map, Option, ap, sym, ◌∙◌}
 use Rattle.std.specs.Bool.{Decides}
 use Rattle.std.specs.Cmp.Lexicographic.{pointwise}
 use Rattle.std.proofs.lemmas.Bool.Decides.{Decides-and, Decides-like, Decides-eqb}

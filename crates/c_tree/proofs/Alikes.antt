@@ -10,11 +10,11 @@ use Rattle.c_tree.specs.declared.choice.Choice.{Choice}
 use Rattle.c_tree.specs.declared.expr.Expr.{Expr, Expr-F, roll-Expr, map-Expr, fold-roll-Expr, ind-Expr}
 use Rattle.c_tree.specs.declared.expr.Expr.TheVariants as expr
 use Rattle.c_tree.specs.declared.expr.Expr.TheOpen.{Const, Null, Var, Field, Deref, Index, Unary, Binary}
-use Rattle.c_tree.specs.declared.program.Block.{Block, Block-F}
-use Rattle.c_tree.specs.declared.program.Piece.{Piece, Piece-F}
+use Rattle.c_tree.specs.declared.program.Block.{Block}
+use Rattle.c_tree.specs.declared.program.Piece.{Piece}
 use Rattle.c_tree.specs.declared.program.Item.{Item, Item-F}
 use Rattle.c_tree.specs.declared.program.Item.TheOpen.{Declare, Assign, Do, Nest, If, While, For, Break, Continue, Return}
-use Rattle.c_tree.specs.declared.program.Arm.{Arm, Arm-F}
+use Rattle.c_tree.specs.declared.program.Arm.{Arm}
 use Rattle.c_tree.specs.declared.program.Gap.{Gap}
 use Rattle.c_tree.specs.declared.program.Free.{Free}
 use Rattle.c_tree.specs.declared.program.Declr.{Declr}

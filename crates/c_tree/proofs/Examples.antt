@@ -1,19 +1,15 @@
 -- A loop `while (x) ..`, with its gaps filled, emptied and compared.
-use Rattle.std.proofs.Common.{◌≡◌, ℕ, ◌+◌, Bool, true, false, List, [], ◌∷◌, Option, Some, None, refl, ap, sym, ◌∙◌, rules, IsTrue}
-use Rattle.c_tree.specs.Fill.{regapped_block, skeleton, fill, filled, ascends, IsAscending}
+use Rattle.std.proofs.Common.{◌≡◌, ℕ, ◌+◌, Bool, true, false, List, [], ◌∷◌, Some, None, refl}
+use Rattle.c_tree.specs.Fill.{skeleton, fill, ascends, IsAscending}
 use Rattle.c_tree.specs.Alike.{IsAlike}
 use Rattle.c_tree.proofs.Alikes.{bare_variable}
-use Rattle.c_tree.specs.declared.choice.Put.{Put}
 use Rattle.c_tree.specs.declared.choice.Choice.{Choice}
-use Rattle.c_tree.specs.declared.expr.Expr.{Expr}
 use Rattle.c_tree.specs.declared.expr.Expr.TheVariants as expr
 use Rattle.c_tree.specs.declared.program.Block.{Block, roll-Block, fold-roll-Block}
-use Rattle.c_tree.specs.declared.program.Piece.{Piece, roll-Piece, fold-roll-Piece}
-use Rattle.c_tree.specs.declared.program.Item.{Item, roll-Item, fold-roll-Item}
-use Rattle.c_tree.specs.declared.program.Item.TheVariants as item
+use Rattle.c_tree.specs.declared.program.Piece.{roll-Piece, fold-roll-Piece}
+use Rattle.c_tree.specs.declared.program.Item.{roll-Item, fold-roll-Item}
 use Rattle.c_tree.specs.declared.program.Item.TheOpen.{While}
 use Rattle.c_tree.specs.declared.program.Free.{Free}
-use Rattle.c_tree.specs.declared.program.FunDef.{FunDef}
 use Rattle.c_tree.specs.declared.program.Program.{Program}
 
 -- the loop's body, with the frees of gap 1

@@ -3,7 +3,7 @@ use Rattle.std.proofs.Common.{◌≡◌, List, [], ◌∷◌, map, refl, ap, ◌
 use Rattle.std.proofs.lemmas.List.{map-id}
 use Rattle.c_tree.specs.Fill.{regapped_block, regapped_fun, regapped, emptied, filled, skeleton, fill}
 use Rattle.c_tree.specs.Copies.{regapped_item, regapped_arm, regapped_piece}
-use Rattle.c_tree.proofs.Rebuilds.{Maps, Layers, Rebuilds, Commutes, Joins, rebuilt, rebuilt_rebuilds, as_it_stands, no_change, stands_rebuilds, after, after_rebuilds, same_item, same_arm, same_block, same_piece}
+use Rattle.c_tree.proofs.Rebuilds.{Maps, Layers, Commutes, Joins, rebuilt, rebuilt_rebuilds, as_it_stands, no_change, stands_rebuilds, after, after_rebuilds, same_item, same_arm, same_block, same_piece}
 use Rattle.c_tree.specs.declared.choice.Choice.{Choice}
 use Rattle.c_tree.specs.declared.program.Block.{Block}
 use Rattle.c_tree.specs.declared.program.Piece.{Piece}

@@ -1,5 +1,5 @@
 -- Tests of whether two trees are alike, the frees in their gaps aside.
-use Rattle.std.specs.Prelude.{ℕ, Bool, true, false, ◌==◌, nat_eq, ◌&&◌, List, [], ◌∷◌, Option, Some, None}
+use Rattle.std.specs.Prelude.{Bool, true, false, ◌==◌, nat_eq, ◌&&◌, Option, Some, None}
 use Rattle.std.specs.Ordering.{int_eq}
 use Rattle.std.specs.Cmp.Lexicographic.{pointwise}
 use Rattle.c_tree.specs.declared.expr.Op.{Op}
@@ -15,7 +15,6 @@ use Rattle.c_tree.specs.declared.program.Piece.{Piece, Piece-F, fold-Piece, out-
 use Rattle.c_tree.specs.declared.program.Item.{Item, Item-F, fold-Item, out-Item}
 use Rattle.c_tree.specs.declared.program.Item.TheOpen.{Declare, Assign, Do, Nest, If, While, For, Break, Continue, Return}
 use Rattle.c_tree.specs.declared.program.Arm.{Arm, Arm-F, fold-Arm, out-Arm}
-use Rattle.c_tree.specs.declared.program.Gap.{Gap}
 use Rattle.c_tree.specs.declared.program.Declr.{Declr}
 use Rattle.c_tree.specs.declared.program.Simple.{Simple}
 use Rattle.c_tree.specs.declared.program.Right.{Right}
@@ -37,11 +36,13 @@ use Rattle.c_tree.specs.declared.program.VarDef.{VarDef}
 use Rattle.c_tree.specs.declared.program.FunDef.{FunDef}
 use Rattle.c_tree.specs.declared.program.Program.{Program}
 
--- both are there, and the test passes, or neither
+-- both are there and pass the test, or neither is there
 abbrev pub option_alike : {A B : Type 0} → (A → B → Bool) → Option A → Option B → Bool
 option_alike f None None = true
 option_alike f (Some x) (Some y) = f x y
 option_alike f _ _ = false
+
+-- the same operator, type and home
 
 abbrev pub same_op : Op → Op → Bool
 same_op op.Put op.Put = true
@@ -84,6 +85,7 @@ same_home (home.Local f) (home.Local g) = f == g
 same_home (home.Result f) (home.Result g) = f == g
 same_home _ _ = false
 
+-- one layer of an expression; the tests of its parts stand in their place
 abbrev pub alike_layer : Expr-F (Expr → Bool) → Expr-F Expr → Bool
 alike_layer (Const m at) (Const n at') = int_eq m n
 alike_layer (Null at) (Null at') = true
@@ -130,6 +132,8 @@ alike_start _ _ = false
 abbrev pub alike_head : ForHead → ForHead → Bool
 alike_head a b = pointwise alike_start a.start b.start && option_alike alike_expr a.test b.test && option_alike alike_simple a.step b.step
 
+-- one layer of a block, likewise
+
 abbrev pub item_layer : Item-F (Item → Bool) (Arm → Bool) (Block → Bool) (Piece → Bool) → Item-F Item Arm Block Piece → Bool
 item_layer (Declare ds) (Declare es) = pointwise alike_declr ds es
 item_layer (Assign a) (Assign b) = alike_simple a b
@@ -152,17 +156,31 @@ block_layer a b = pointwise (λ f x. f x) a.items b.items && (a.last_gap.number 
 abbrev pub piece_layer : Piece-F (Item → Bool) (Arm → Bool) (Block → Bool) (Piece → Bool) → Piece-F Item Arm Block Piece → Bool
 piece_layer a b = (a.gap.number == b.gap.number) && a.item b.item
 
+-- a layer of tests, at a value
+
+abbrev pub on_item : Item-F (Item → Bool) (Arm → Bool) (Block → Bool) (Piece → Bool) → Item → Bool
+on_item l x = item_layer l (out-Item x)
+
+abbrev pub on_arm : Arm-F (Item → Bool) (Arm → Bool) (Block → Bool) (Piece → Bool) → Arm → Bool
+on_arm l x = arm_layer l (out-Arm x)
+
+abbrev pub on_block : Block-F (Item → Bool) (Arm → Bool) (Block → Bool) (Piece → Bool) → Block → Bool
+on_block l x = block_layer l (out-Block x)
+
+abbrev pub on_piece : Piece-F (Item → Bool) (Arm → Bool) (Block → Bool) (Piece → Bool) → Piece → Bool
+on_piece l x = piece_layer l (out-Piece x)
+
 abbrev pub alike_item : Item → Item → Bool
-alike_item = fold-Item (Item → Bool) (Arm → Bool) (Block → Bool) (Piece → Bool) (λ l x. item_layer l (out-Item x)) (λ l x. arm_layer l (out-Arm x)) (λ l x. block_layer l (out-Block x)) (λ l x. piece_layer l (out-Piece x))
+alike_item = fold-Item (Item → Bool) (Arm → Bool) (Block → Bool) (Piece → Bool) on_item on_arm on_block on_piece
 
 abbrev pub alike_arm : Arm → Arm → Bool
-alike_arm = fold-Arm (Item → Bool) (Arm → Bool) (Block → Bool) (Piece → Bool) (λ l x. item_layer l (out-Item x)) (λ l x. arm_layer l (out-Arm x)) (λ l x. block_layer l (out-Block x)) (λ l x. piece_layer l (out-Piece x))
+alike_arm = fold-Arm (Item → Bool) (Arm → Bool) (Block → Bool) (Piece → Bool) on_item on_arm on_block on_piece
 
 abbrev pub alike_block : Block → Block → Bool
-alike_block = fold-Block (Item → Bool) (Arm → Bool) (Block → Bool) (Piece → Bool) (λ l x. item_layer l (out-Item x)) (λ l x. arm_layer l (out-Arm x)) (λ l x. block_layer l (out-Block x)) (λ l x. piece_layer l (out-Piece x))
+alike_block = fold-Block (Item → Bool) (Arm → Bool) (Block → Bool) (Piece → Bool) on_item on_arm on_block on_piece
 
 abbrev pub alike_piece : Piece → Piece → Bool
-alike_piece = fold-Piece (Item → Bool) (Arm → Bool) (Block → Bool) (Piece → Bool) (λ l x. item_layer l (out-Item x)) (λ l x. arm_layer l (out-Arm x)) (λ l x. block_layer l (out-Block x)) (λ l x. piece_layer l (out-Piece x))
+alike_piece = fold-Piece (Item → Bool) (Arm → Bool) (Block → Bool) (Piece → Bool) on_item on_arm on_block on_piece
 
 abbrev pub alike_field : FieldDef → FieldDef → Bool
 alike_field a b = pointwise nat_eq a.name b.name && same_ty a.ty b.ty

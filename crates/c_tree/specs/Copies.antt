@@ -1,6 +1,6 @@
 -- What a copy of a tree does with the gaps: it keeps them, or fills them.
-use Rattle.std.specs.Prelude.{Bool, true, Option, Some, None, IsTrue, List, map}
-use Rattle.c_tree.specs.Fill.{filled, ascends, regapped_block}
+use Rattle.std.specs.Prelude.{Option, Some, None, IsTrue, List}
+use Rattle.c_tree.specs.Fill.{filled, ascends}
 use Rattle.c_tree.specs.declared.choice.Put.{Put}
 use Rattle.c_tree.specs.declared.program.Block.{Block, roll-Block}
 use Rattle.c_tree.specs.declared.program.Piece.{Piece, roll-Piece, fold-Piece}

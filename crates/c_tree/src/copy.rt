@@ -1,7 +1,10 @@
 ghost use Rattle.std.specs.Prelude.{◌≡◌, IfOk, IsTrue, map};
 ghost use Rattle.std.specs.Option.{option_copied};
-ghost use Rattle.c_tree.specs.Fill.{IsAscending, ascends, filled, puts_at, regapped, regapped_block, regapped_fun, free_of as freed_put, fill as filled_program, skeleton as skeleton_of};
-ghost use Rattle.c_tree.specs.Copies.{AnyAscends, regap, regapped_arm, regapped_item, regapped_piece};
+ghost use Rattle.c_tree.specs.Fill.{IsAscending, ascends, filled, free_of as freed_put, puts_at};
+ghost use Rattle.c_tree.specs.Fill.{regapped, regapped_block, regapped_fun};
+ghost use Rattle.c_tree.specs.Fill.{fill as filled_program, skeleton as skeleton_of};
+ghost use Rattle.c_tree.specs.Copies.{AnyAscends, regap};
+ghost use Rattle.c_tree.specs.Copies.{regapped_arm, regapped_item, regapped_piece};
 
 use crate::choice::{Choice, Put};
 use crate::duplicate::Duplicate;
@@ -71,7 +74,8 @@ fn copied_gap(alloc: Global, gap: &Gap, puts: Option<&[Put]>) -> Result<Gap, Mem
 #[cycle(copies)]
 fn copied_block(alloc: Global, block: &Block, puts: Option<&[Put]>) -> Result<Block, Memory>
     requires { AnyAscends (option_copied puts) }
-    ensures { IfOk result (λ copy. copy ≡ regapped_block (regap (option_copied puts.entry)) block.now) }
+    ensures { let new_gap = regap (option_copied puts.entry) in
+        IfOk result (λ copy. copy ≡ regapped_block new_gap block.now) }
 {
     let mut items = Items::new(alloc);
     let pieces = block.items.as_slice();
@@ -90,7 +94,8 @@ fn copied_block(alloc: Global, block: &Block, puts: Option<&[Put]>) -> Result<Bl
 #[cycle(copies)]
 fn copied_piece(alloc: Global, piece: &Piece, puts: Option<&[Put]>) -> Result<Piece, Memory>
     requires { AnyAscends (option_copied puts) }
-    ensures { IfOk result (λ copy. copy ≡ regapped_piece (regap (option_copied puts.entry)) piece.now) }
+    ensures { let new_gap = regap (option_copied puts.entry) in
+        IfOk result (λ copy. copy ≡ regapped_piece new_gap piece.now) }
 {
     Ok(Piece {
         gap: copied_gap(alloc, &piece.gap, puts)?,
@@ -103,7 +108,8 @@ fn copied_piece(alloc: Global, piece: &Piece, puts: Option<&[Put]>) -> Result<Pi
 #[cycle(copies)]
 fn copied_item(alloc: Global, item: &Item, puts: Option<&[Put]>) -> Result<Item, Memory>
     requires { AnyAscends (option_copied puts) }
-    ensures { IfOk result (λ copy. copy ≡ regapped_item (regap (option_copied puts.entry)) item.now) }
+    ensures { let new_gap = regap (option_copied puts.entry) in
+        IfOk result (λ copy. copy ≡ regapped_item new_gap item.now) }
 {
     match item {
         Item::Declare(declrs) => Ok(Item::Declare(declrs.duplicate(alloc)?)),
@@ -132,7 +138,8 @@ fn copied_item(alloc: Global, item: &Item, puts: Option<&[Put]>) -> Result<Item,
 #[cycle(copies)]
 fn copied_arms(alloc: Global, arms: &Items<Arm>, puts: Option<&[Put]>) -> Result<Items<Arm>, Memory>
     requires { AnyAscends (option_copied puts) }
-    ensures { IfOk result (λ copy. copy ≡ map (regapped_arm (regap (option_copied puts.entry))) arms.now) }
+    ensures { let new_gap = regap (option_copied puts.entry) in
+        IfOk result (λ copy. copy ≡ map (regapped_arm new_gap) arms.now) }
 {
     let mut copy = Items::new(alloc);
     let arms = arms.as_slice();
@@ -145,7 +152,8 @@ fn copied_arms(alloc: Global, arms: &Items<Arm>, puts: Option<&[Put]>) -> Result
 #[cycle(copies)]
 fn copied_arm(alloc: Global, arm: &Arm, puts: Option<&[Put]>) -> Result<Arm, Memory>
     requires { AnyAscends (option_copied puts) }
-    ensures { IfOk result (λ copy. copy ≡ regapped_arm (regap (option_copied puts.entry)) arm.now) }
+    ensures { let new_gap = regap (option_copied puts.entry) in
+        IfOk result (λ copy. copy ≡ regapped_arm new_gap arm.now) }
 {
     Ok(Arm {
         test: arm.test.duplicate(alloc)?,
@@ -155,7 +163,8 @@ fn copied_arm(alloc: Global, arm: &Arm, puts: Option<&[Put]>) -> Result<Arm, Mem
 
 fn copied_fun(alloc: Global, fun: &FunDef, puts: Option<&[Put]>) -> Result<FunDef, Memory>
     requires { AnyAscends (option_copied puts) }
-    ensures { IfOk result (λ copy. copy ≡ regapped_fun (regap (option_copied puts.entry)) fun.now) }
+    ensures { let new_gap = regap (option_copied puts.entry) in
+        IfOk result (λ copy. copy ≡ regapped_fun new_gap fun.now) }
 {
     Ok(FunDef {
         name: Seq::from_slice(alloc, fun.name.as_slice())?,
@@ -168,7 +177,8 @@ fn copied_fun(alloc: Global, fun: &FunDef, puts: Option<&[Put]>) -> Result<FunDe
 
 fn copied_funs(alloc: Global, funs: &[FunDef], puts: Option<&[Put]>) -> Result<Seq<FunDef>, Memory>
     requires { AnyAscends (option_copied puts) }
-    ensures { IfOk result (λ copy. copy ≡ map (regapped_fun (regap (option_copied puts.entry))) funs.now) }
+    ensures { let new_gap = regap (option_copied puts.entry) in
+        IfOk result (λ copy. copy ≡ map (regapped_fun new_gap) funs.now) }
 {
     let mut copy = Seq::new(alloc);
     for fun in funs {
@@ -179,7 +189,8 @@ fn copied_funs(alloc: Global, funs: &[FunDef], puts: Option<&[Put]>) -> Result<S
 
 fn copied_program(alloc: Global, program: &Program, puts: Option<&[Put]>) -> Result<Program, Memory>
     requires { AnyAscends (option_copied puts) }
-    ensures { IfOk result (λ copy. copy ≡ regapped (regap (option_copied puts.entry)) program.now) }
+    ensures { let new_gap = regap (option_copied puts.entry) in
+        IfOk result (λ copy. copy ≡ regapped new_gap program.now) }
 {
     Ok(Program {
         structs: program.structs.duplicate(alloc)?,

@@ -1,5 +1,6 @@
 ghost use Rattle.std.specs.Prelude.{◌≡◌, IfOk};
 
+use crate::choice::Choice;
 use crate::expr::Expr;
 use crate::program::{
     Call, Declr, FieldDef, ForHead, Free, Gap, Right, Simple, Size, Start, StructDef, VarDef,
@@ -31,6 +32,14 @@ impl<T: Duplicate> Duplicate for Seq<T> {
             copy.push(item.duplicate(alloc)?)?;
         }
         Ok(copy)
+    }
+}
+
+impl Duplicate for Choice {
+    fn duplicate(&self, alloc: Global) -> Result<Choice, Memory> {
+        Ok(Choice {
+            puts: Seq::from_slice(alloc, self.puts.as_slice())?,
+        })
     }
 }
 

@@ -1,3 +1,6 @@
+ghost use Rattle.std.specs.Prelude.{IfOk};
+ghost use Rattle.c_tree.specs.Fill.{IsAscending};
+
 use crate::{
     Arm, Block, Call, Choice, Declr, Duplicate, Expr, FieldDef, ForHead, Free, FunDef, Gap, Home,
     Item, Op, Oper, Piece, Program, Put, Right, Sign, Simple, Size, Start, StructDef, Ty, VarDef,
@@ -32,18 +35,23 @@ fn arguments(alloc: Global, at: usize) -> Result<Seq<Expr>, Memory> {
     Ok(list)
 }
 
-fn calls(alloc: Global, at: usize) -> Result<Vec<Call>, Memory> {
-    let count = Boxed::new(alloc, Expr::Const(3, at))?;
-    let text = Seq::from_slice(alloc, b"%d")?;
-    let mut list = Vec::new(alloc);
-    list.push(Call::User(0, 0, arguments(alloc, at)?, at))?;
-    list.push(Call::Malloc(Size::Fields(0), at))?;
-    list.push(Call::Malloc(Size::Ints(None), at))?;
-    list.push(Call::Malloc(Size::Ints(Some(count)), at))?;
-    list.push(Call::Getchar(at))?;
-    list.push(Call::Putchar(expression(alloc, at)?, at))?;
-    list.push(Call::Printf(text, arguments(alloc, at)?, at))?;
-    Ok(list)
+/// A call of each kind, by its number.
+fn call(alloc: Global, kind: usize, at: usize) -> Result<Call, Memory> {
+    match kind {
+        0 => Ok(Call::User(0, 0, arguments(alloc, at)?, at)),
+        1 => Ok(Call::Malloc(Size::Fields(0), at)),
+        2 => Ok(Call::Malloc(Size::Ints(None), at)),
+        3 => {
+            let count = Boxed::new(alloc, Expr::Const(3, at))?;
+            Ok(Call::Malloc(Size::Ints(Some(count)), at))
+        }
+        4 => Ok(Call::Getchar(at)),
+        5 => Ok(Call::Putchar(expression(alloc, at)?, at)),
+        _ => {
+            let text = Seq::from_slice(alloc, b"%d")?;
+            Ok(Call::Printf(text, arguments(alloc, at)?, at))
+        }
+    }
 }
 
 fn declarators(alloc: Global, at: usize) -> Result<Seq<Declr>, Memory> {
@@ -121,23 +129,31 @@ fn arms(alloc: Global, number: usize, at: usize) -> Result<Items<Arm>, Memory> {
     Ok(list)
 }
 
-/// An item of each kind.
+/// An item of each kind, by its number, the calls aside.
+fn item(alloc: Global, kind: usize, at: usize) -> Result<Item, Memory> {
+    match kind {
+        0 => Ok(Item::Declare(declarators(alloc, at)?)),
+        1 => Ok(Item::Assign(assignment(alloc, at)?)),
+        2 => Ok(Item::Nest(empty_block(alloc, 50, at))),
+        3 => Ok(Item::If(arms(alloc, 51, at)?, None)),
+        4 => Ok(Item::If(arms(alloc, 52, at)?, Some(empty_block(alloc, 53, at)))),
+        5 => Ok(Item::While(expression(alloc, at)?, empty_block(alloc, 54, at))),
+        6 => Ok(Item::For(head(alloc, at)?, empty_block(alloc, 55, at))),
+        7 => Ok(Item::Break),
+        8 => Ok(Item::Continue),
+        9 => Ok(Item::Return(Some(Right::Plain(expression(alloc, at)?)), at)),
+        _ => Ok(Item::Return(None, at)),
+    }
+}
+
 fn items(alloc: Global, at: usize) -> Result<Vec<Item>, Memory> {
     let mut list = Vec::new(alloc);
-    list.push(Item::Declare(declarators(alloc, at)?))?;
-    list.push(Item::Assign(assignment(alloc, at)?))?;
-    for call in calls(alloc, at)? {
-        list.push(Item::Do(call))?;
+    for kind in 0..11 {
+        list.push(item(alloc, kind, at)?)?;
     }
-    list.push(Item::Nest(empty_block(alloc, 50, at)))?;
-    list.push(Item::If(arms(alloc, 51, at)?, None))?;
-    list.push(Item::If(arms(alloc, 52, at)?, Some(empty_block(alloc, 53, at))))?;
-    list.push(Item::While(expression(alloc, at)?, empty_block(alloc, 54, at)))?;
-    list.push(Item::For(head(alloc, at)?, empty_block(alloc, 55, at)))?;
-    list.push(Item::Break)?;
-    list.push(Item::Continue)?;
-    list.push(Item::Return(Some(Right::Plain(expression(alloc, at)?)), at))?;
-    list.push(Item::Return(None, at))?;
+    for kind in 0..7 {
+        list.push(Item::Do(call(alloc, kind, at)?))?;
+    }
     Ok(list)
 }
 
@@ -160,40 +176,54 @@ fn block(alloc: Global, items: Vec<Item>, last_gap: Gap, at: usize) -> Result<Bl
     })
 }
 
-fn program(alloc: Global, body: Block, at: usize) -> Result<Program, Memory> {
+fn structs(alloc: Global, at: usize) -> Result<Seq<StructDef>, Memory> {
     let name = Seq::from_slice(alloc, b"f")?;
     let mut fields = Seq::new(alloc);
     fields.push(FieldDef {
         name,
         ty: Ty::IntPtr,
     })?;
-    let mut structs = Seq::new(alloc);
-    structs.push(StructDef {
+    let mut list = Seq::new(alloc);
+    list.push(StructDef {
         fields,
         body: Some(at),
     })?;
-    let mut vars = Seq::new(alloc);
+    Ok(list)
+}
+
+fn variables(alloc: Global, at: usize) -> Result<Seq<VarDef>, Memory> {
     let name = Seq::from_slice(alloc, b"p")?;
-    vars.push(VarDef {
+    let mut list = Seq::new(alloc);
+    list.push(VarDef {
         name,
         ty: Ty::StructPtr(0),
         home: Home::Global(-1),
         at,
     })?;
+    Ok(list)
+}
+
+fn functions(alloc: Global, body: Block, at: usize) -> Result<Seq<FunDef>, Memory> {
     let name = Seq::from_slice(alloc, b"main")?;
     let params = Seq::from_slice(alloc, &[0])?;
-    let mut funs = Seq::new(alloc);
-    funs.push(FunDef {
+    let mut list = Seq::new(alloc);
+    list.push(FunDef {
         name,
         result: Some(Ty::Int),
         params,
         body,
         at,
     })?;
+    Ok(list)
+}
+
+fn program(alloc: Global, body: Block, at: usize) -> Result<Program, Memory> {
+    let structs = structs(alloc, at)?;
+    let vars = variables(alloc, at)?;
     Ok(Program {
         structs,
         vars,
-        funs,
+        funs: functions(alloc, body, at)?,
         main: 0,
         gaps: 60,
         calls: 1,
@@ -249,54 +279,66 @@ fn returning(alloc: Global, before: Seq<Free>, behind: Seq<Free>) -> Result<Prog
     )
 }
 
-fn free(expr: Expr) -> Free {
-    Free {
-        expr,
+/// `free(p->f); free(q);` by their numbers 2, 0 and 1.
+fn frees(alloc: Global) -> Result<Seq<Free>, Memory> {
+    let mut list = Seq::new(alloc);
+    list.push(Free {
+        expr: field_of(alloc, 2, 0, 0)?,
         start: 0,
         end: 0,
-    }
+    })?;
+    list.push(Free {
+        expr: Expr::Var(1, 0),
+        start: 0,
+        end: 0,
+    })?;
+    Ok(list)
+}
+
+/// Those frees, in the last gap.
+fn choice(alloc: Global) -> Result<Choice, Memory>
+    ensures { IfOk result (λ choice. IsAscending choice) }
+{
+    let field = Put {
+        gap: 1,
+        var: 2,
+        field: Some(0),
+    };
+    let variable = Put {
+        gap: 1,
+        var: 1,
+        field: None,
+    };
+    let puts = Seq::from_slice(alloc, &[field, variable])?;
+    Ok(Choice { puts })
 }
 
 #[test]
 fn fields_are_freed_before_variables(rt: HostRuntime) -> Result<(), Fail> {
     let alloc = rt.alloc();
-    let mut old = Seq::new(alloc);
-    old.push(free(Expr::Var(3, 5)))?;
-    let program = returning(alloc, old, Seq::new(alloc))?;
-    let puts = [
-        Put {
-            gap: 1,
-            var: 2,
-            field: Some(0),
-        },
-        Put {
-            gap: 1,
-            var: 1,
-            field: None,
-        },
-    ];
-    let choice = Choice {
-        puts: Seq::from_slice(alloc, &puts)?,
-    };
-    let mut frees = Seq::new(alloc);
-    frees.push(free(field_of(alloc, 2, 0, 0)?))?;
-    frees.push(free(Expr::Var(1, 0)))?;
-    let expected = returning(alloc, Seq::new(alloc), frees)?;
-    let filled = fill(alloc, &program, &choice)?;
+    let program = returning(alloc, frees(alloc)?, Seq::new(alloc))?;
+    let filled = fill(alloc, &program, &choice(alloc)?)?;
+    let expected = returning(alloc, Seq::new(alloc), frees(alloc)?)?;
     assert_eq!(rt; text(alloc, &filled)?, text(alloc, &expected)?);
-    let empty = returning(alloc, Seq::new(alloc), Seq::new(alloc))?;
-    let bare = skeleton(alloc, &filled)?;
-    assert_eq!(rt; text(alloc, &bare)?, text(alloc, &empty)?);
-    assert!(rt; same_skeleton(&program, &filled));
     Ok(())
 }
 
 #[test]
-fn programs_differ_in_their_items(rt: HostRuntime) -> Result<(), Fail> {
+fn a_skeleton_has_no_frees(rt: HostRuntime) -> Result<(), Fail> {
+    let alloc = rt.alloc();
+    let program = returning(alloc, frees(alloc)?, frees(alloc)?)?;
+    let bare = skeleton(alloc, &program)?;
+    let expected = returning(alloc, Seq::new(alloc), Seq::new(alloc))?;
+    assert_eq!(rt; text(alloc, &bare)?, text(alloc, &expected)?);
+    assert!(rt; same_skeleton(&program, &bare));
+    Ok(())
+}
+
+#[test]
+fn offsets_make_no_difference(rt: HostRuntime) -> Result<(), Fail> {
     let alloc = rt.alloc();
     let program = sample(alloc, 7)?;
     assert!(rt; same_skeleton(&program, &sample(alloc, 8)?));
-    assert!(rt; same_skeleton(&program, &skeleton(alloc, &program)?));
     let other = returning(alloc, Seq::new(alloc), Seq::new(alloc))?;
     assert!(rt; !same_skeleton(&program, &other));
     Ok(())

@@ -1,5 +1,5 @@
 -- The two binary searches give the bounds of the gap's puts.
-use Rattle.std.proofs.Common.{rules, of_calls, ◌<◌, ◌≤◌, nat_lt, nat_le, arith}
+use Rattle.std.proofs.Common.{rules, of_calls, nat_lt, nat_le}
 use Rattle.std.proofs.lemmas.Fn.{always_returns_same}
 use Rattle.std.proofs.lemmas.List.Sorted.{IsPartitionedBy-ltb, IsPartitionedBy-leb}
 use Rattle.c_tree.proofs.Puts.{ascending_gaps, bounds_from, bounds_in_order, part_of_gap}
