@@ -35,7 +35,6 @@ use Rattle.memfix_engine.proofs.EditAlike.{alike_straight}
 
 -- the steps of the frees that are written
 
-
 abbrev pub releases : ℕ → List (List ℕ) → List Step
 releases at [] = []
 releases at (x ∷ xs) = step_of pattern.Free (free_tokens_of at x) ∷ releases (at + length (free_text x)) xs
@@ -51,7 +50,7 @@ releases-spelled : (at : ℕ) (xs : List (List ℕ)) → AreLetters xs → Steps
 releases-spelled at [] h = none
 releases-spelled at (x ∷ xs) h =
     more (step_of pattern.Free (free_tokens_of at x)) (releases (at + length (free_text x)) xs) (free_tokens_of at x) (free_tokens (at + length (free_text x)) xs)
-        (Spells-step_of (free_tokens_of at x) pattern.Free (free_matches at x h.0)) (releases-spelled (at + length (free_text x)) xs h.1)
+    (Spells-step_of (free_tokens_of at x) pattern.Free (free_matches at x h.0)) (releases-spelled (at + length (free_text x)) xs h.1)
 
 Steps-append : {ss us : List Step} {ts vs : List Token} → Steps ss ts → Steps us vs → Steps (ss ++ us) (ts ++ vs)
 Steps-append none k = k
@@ -99,7 +98,7 @@ read_releases at i (w ∷ ws) r h =
     let one : Free = record { expr = Var i (start_at (free_tokens_of at w.name) 2); start = step.start; end = step.end } in
     let behind : List Free = frees_from (at + length (free_text w.name)) (i + 1) ws in
     ap (λ (o : Option ℕ). option_and_then (λ (q : Reading). read_from q rest)
-            (option_map (released r step (record { name = w.name; name_at = start_at (free_tokens_of at w.name) 2 })) o)) h.0
+    (option_map (released r step (record { name = w.name; name_at = start_at (free_tokens_of at w.name) 2 })) o)) h.0
     ∙ read_releases (at + length (free_text w.name)) (i + 1) ws (with_frees r (r.frees ++ one ∷ [])) h.1
     ∙ ap (λ (fs : List Free). Some (with_frees r fs)) (append_assoc r.frees (one ∷ []) behind)
 
@@ -107,7 +106,7 @@ bare_released : (g at i : ℕ) (ws : List VarDef) → map bare_free (frees_from 
 bare_released g at i [] = refl
 bare_released g at i (w ∷ ws) =
     ap (λ (e : Expr). (record { expr = e; start = 0; end = 0 }) ∷ map bare_free (frees_from (at + length (free_text w.name)) (i + 1) ws))
-        (bare_variable i (start_at (free_tokens_of at w.name) 2))
+    (bare_variable i (start_at (free_tokens_of at w.name) 2))
     ∙ ap (λ (fs : List Free). free_of (put_of g i) ∷ fs) (bare_released g (at + length (free_text w.name)) (i + 1) ws)
 
 on_append : (xs ys : List Step) (o : Option Reading) → ((q : Reading) → read_from q (xs ++ ys) ≡ option_and_then (λ k. read_from k ys) (read_from q xs))
@@ -167,37 +166,47 @@ reads_filled b ts d r t us s form tail kept read =
     let behind = map (shifted (length text)) (t ∷ us) in
     let place : d.return_at ≡ t.start = ap (λ (x : Draft). x.return_at) form.read ∙ ap (λ (x : List Token). start_at x 0) tail in
     let parts : ts ≡ (form.head ++ form.body) ++ t ∷ us =
-        form.whole ∙ ap (λ (x : List Token). form.head ++ (form.body ++ x)) tail ∙ sym (append_assoc form.head form.body (t ∷ us)) in
+    form.whole ∙ ap (λ (x : List Token). form.head ++ (form.body ++ x)) tail ∙ sym (append_assoc form.head form.body (t ∷ us)) in
     let named : All IsName names = All-from_recursion IsName names (names_of r.vars kept.sound.named) in
     let tokens : List Token = (form.head ++ form.body) ++ frees ++ behind in
     let new_scan : Scans (take t.start b ++ text ++ drop t.start b) tokens =
-        Scans_inserted b (form.head ++ form.body) us t names (subst (Scans b) parts s) named in
+    Scans_inserted b (form.head ++ form.body) us t names (subst (Scans b) parts s) named in
     let text_is : edited b (whole_of d r) (choice_of (whole_of d r)) ≡ take t.start b ++ text ++ drop t.start b =
-        edited_straight b d r kept.sound ∙ ap (λ (n : ℕ). take n b ++ text ++ drop n b) place in
+    edited_straight b d r kept.sound ∙ ap (λ (n : ℕ). take n b ++ text ++ drop n b) place in
     let draft : Draft = draft_of (d.steps ++ releases t.start names) form.head behind in
     let whole : tokens ≡ form.head ++ ((form.body ++ frees) ++ behind) =
-        append_assoc (form.head ++ form.body) frees behind ∙ append_assoc form.head form.body (frees ++ behind)
-        ∙ ap (λ (x : List Token). form.head ++ x) (sym (append_assoc form.body frees behind)) in
+    append_assoc (form.head ++ form.body) frees behind ∙ append_assoc form.head form.body (frees ++ behind)
+    ∙ ap (λ (x : List Token). form.head ++ x) (sym (append_assoc form.body frees behind)) in
     let new_form : IsForm tokens draft = record {
-        head = form.head; body = form.body ++ frees; tail = behind; whole = whole; begins = form.begins;
-        steps = Steps-append form.steps (releases-spelled t.start names (letters_of r.vars kept.lettered));
-        ends = matches-shifted (length text) tail_pattern (t ∷ us) ∙ ap (matches tail_pattern) (sym tail) ∙ form.ends;
-        read = refl } in
+      head = form.head;
+      body = form.body ++ frees;
+      tail = behind;
+      whole = whole;
+      begins = form.begins;
+      steps = Steps-append form.steps (releases-spelled t.start names (letters_of r.vars kept.lettered));
+      ends = matches-shifted (length text) tail_pattern (t ∷ us) ∙ ap (matches tail_pattern) (sym tail) ∙ form.ends;
+      read = refl;
+    } in
     let found : AreFound r.vars 0 r.vars =
-        found_from r.vars r.vars 0 (λ k w g. let e : k ≡ 0 + k = omega arith in kept.sound.found k w g ∙ ap Some e) in
+    found_from r.vars r.vars 0 (λ k w g. let e : k ≡ 0 + k = omega arith in kept.sound.found k w g ∙ ap Some e) in
     let freed : List Free = frees_from t.start 0 r.vars in
     let reading : read_from nothing_read (d.steps ++ releases t.start names) ≡ Some (with_frees r freed) =
-        read_from-append d.steps (releases t.start names) nothing_read
-        ∙ ap (option_and_then (λ (k : Reading). read_from k (releases t.start names))) read
-        ∙ read_releases t.start 0 r.vars r found
-        ∙ ap (λ (fs : List Free). Some (with_frees r (fs ++ freed))) kept.sound.frees in
+    read_from-append d.steps (releases t.start names) nothing_read
+    ∙ ap (option_and_then (λ (k : Reading). read_from k (releases t.start names))) read
+    ∙ read_releases t.start 0 r.vars r found
+    ∙ ap (λ (fs : List Free). Some (with_frees r (fs ++ freed))) kept.sound.frees in
     let number : draft.number ≡ d.number =
-        number_at-shifted (length text) (t ∷ us) 1 ∙ ap (λ (x : List Token). number_at x 1) (sym tail) ∙ sym (ap (λ (x : Draft). x.number) form.read) in
+    number_at-shifted (length text) (t ∷ us) 1 ∙ ap (λ (x : List Token). number_at x 1) (sym tail) ∙ sym (ap (λ (x : Draft). x.number) form.read) in
     record {
       filled = whole_of draft (with_frees r freed);
-      reads = record { tokens = tokens; draft = draft; scanned = subst (λ (w : List ℕ). Scans w tokens) (sym text_is) new_scan; form = new_form;
-        program = ap (option_map (whole_of draft)) reading };
-      alike = alike_straight d draft r freed kept.sound number (bare_released (length r.pieces) t.start 0 r.vars)
+      reads = record {
+        tokens = tokens;
+        draft = draft;
+        scanned = subst (λ (w : List ℕ). Scans w tokens) (sym text_is) new_scan;
+        form = new_form;
+        program = ap (option_map (whole_of draft)) reading;
+      };
+      alike = alike_straight d draft r freed kept.sound number (bare_released (length r.pieces) t.start 0 r.vars);
     }
 
 filled_text : (b : List ℕ) (p : Program) → IsBuilt b p → ReadsFilled (edited b p (choice_of p)) p
@@ -208,7 +217,7 @@ filled_text b p h =
     let first = tail_first form.tail form.ends in
     let kept = read_plain d.steps found.reading (Steps-lettered form.steps) h.plain found.found in
     subst (λ (q : Program). ReadsFilled (edited b q (choice_of q)) q) (sym found.is)
-        (reads_filled b h.reads.tokens d found.reading first.first first.others h.reads.scanned form first.is kept found.found)
+    (reads_filled b h.reads.tokens d found.reading first.first first.others h.reads.scanned form first.is kept found.found)
 
 -- the edit of a built text repairs it
 pub repaired : (b w : List ℕ) (p : Program) → IsBuilt b p → w ≡ edited b p (choice_of p) → Repairs b w

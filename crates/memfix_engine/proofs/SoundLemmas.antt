@@ -97,7 +97,7 @@ with_item_sound r i s h k = record {
   pieces = subst (λ g. Straight 0 0 (r.pieces ++ item_piece g i s.start s.end ∷ []) (length r.vars)) (sym (one_more h))
       (Straight-snoc (length r.pieces) s.start s.end h.pieces k (omega arith));
   named = h.named;
-  found = h.found
+  found = h.found;
 }
 
 -- both of them
@@ -115,20 +115,23 @@ with_make_sound r s t h letter new =
       frees = refl;
       pieces = subst (λ n. Straight 0 0 (r.pieces ++ item_piece (gap_of r) (declared (length r.vars) t) s.start s.end ∷ []) n) longer
           (subst (λ g. Straight 0 0 (r.pieces ++ item_piece g (declared (length r.vars) t) s.start s.end ∷ []) (length r.vars + 1)) (sym (one_more h))
-              (Straight-snoc (length r.pieces) s.start s.end h.pieces (declares t) (omega arith)));
+          (Straight-snoc (length r.pieces) s.start s.end h.pieces (declares t) (omega arith)));
       named = λ k u g. elim (slice_get-snoc r.vars (made_var t) u k g) [
-          inl a ↦ h.named k u a
-        | inr b ↦ subst (λ (w : VarDef). IsName w.name) b.1 (letter_is_name t.name letter) ];
+        | inl a ↦ h.named k u a
+        | inr b ↦ subst (λ (w : VarDef). IsName w.name) b.1 (letter_is_name t.name letter)
+      ];
       found = λ k u g. elim (slice_get-snoc r.vars (made_var t) u k g) [
-          inl a ↦ position-snoc_some (λ (w : VarDef). pointwise nat_eq w.name u.name) r.vars (made_var t) k (h.found k u a)
+        | inl a ↦ position-snoc_some (λ (w : VarDef). pointwise nat_eq w.name u.name) r.vars (made_var t) k (h.found k u a)
         | inr b ↦ subst (λ (w : VarDef). var_of (r.vars ++ made_var t ∷ []) w.name ≡ Some k) b.1
-            (position-snoc_none (λ (w : VarDef). pointwise nat_eq w.name t.name) r.vars (made_var t) new (pointwise_same t.name) ∙ ap Some (sym b.0)) ]
+            (position-snoc_none (λ (w : VarDef). pointwise nat_eq w.name t.name) r.vars (made_var t) new (pointwise_same t.name) ∙ ap Some (sym b.0))
+      ];
     }
 
 lettered_more : (vars : List VarDef) (t : Make) → IsLettered vars → is_letter_name t.name ≡ true → IsLettered (vars ++ made_var t ∷ [])
 lettered_more vars t h letter = λ k u g. elim (slice_get-snoc vars (made_var t) u k g) [
-    inl a ↦ h k u a
-  | inr b ↦ subst (λ (w : VarDef). is_letter_name w.name ≡ true) b.1 letter ]
+  | inl a ↦ h k u a
+  | inr b ↦ subst (λ (w : VarDef). is_letter_name w.name ≡ true) b.1 letter
+]
 
 some_is : {A : Type 0} (x y : A) → Some x ≡ Some y → x ≡ y
 some_is x y h = cc
@@ -136,7 +139,7 @@ some_is x y h = cc
 make_kept : (r q : Reading) (s : Step) (t : Make) (o : Option ℕ) → var_of r.vars t.name ≡ o → IsKept r → is_letter_name t.name ≡ true → made r s t o ≡ Some q → IsKept q
 make_kept r q s t None e h letter g =
     subst IsKept (some_is (with_make r s t) q g)
-        (record { sound = with_make_sound r s t h.sound letter e; lettered = lettered_more r.vars t h.lettered letter })
+    (record { sound = with_make_sound r s t h.sound letter e; lettered = lettered_more r.vars t h.lettered letter })
 make_kept r q s t (Some x) e h letter g = absurd cc
 
 item_kept : (r q : Reading) (s : Step) (f : ℕ → Item) (name : List ℕ) (o : Option ℕ) → var_of r.vars name ≡ o → IsKept r
@@ -145,7 +148,7 @@ item_kept r q s f name None e h k g = absurd cc
 item_kept r q s f name (Some x) e h k g =
     let below : x < length r.vars = position-below (λ (w : VarDef). pointwise nat_eq w.name name) r.vars x e in
     subst IsKept (some_is (with_item r (f x) s) q g)
-        (record { sound = with_item_sound r (f x) s h.sound (k x below); lettered = h.lettered })
+    (record { sound = with_item_sound r (f x) s h.sound (k x below); lettered = h.lettered })
 
 kept_by : (r q : Reading) (s : Step) (d : Deed) → IsKept r → is_plain_deed d ≡ true → IsLetteredDeed d → stepped_by r s d ≡ Some q → IsKept q
 kept_by r q s (deed.Make t) h p l g = make_kept r q s t (var_of r.vars t.name) refl h l g
@@ -171,7 +174,7 @@ empty_get (suc k) v h = cc
 nothing_kept : IsKept nothing_read
 nothing_kept = record {
   sound = record { frees = refl; pieces = straight.none; named = λ k v h. absurd (empty_get k v h); found = λ k v h. absurd (empty_get k v h) };
-  lettered = λ k v h. absurd (empty_get k v h)
+  lettered = λ k v h. absurd (empty_get k v h);
 }
 
 -- plain steps make a sound reading

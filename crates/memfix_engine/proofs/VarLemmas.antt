@@ -25,7 +25,7 @@ position-by_head : {X : Type 0} (p : X → Bool) (x : X) (xs : List X) (b : Bool
 position-by_head p x xs true h = rw h (rw (lt-ltb 0 (suc (length xs)) (omega arith)) refl)
 position-by_head p x xs false h =
     rw h (rw (below_shift (prefix_len (λ y. not (p y)) xs) (length xs))
-        (some_shift (prefix_len (λ y. not (p y)) xs) (nat_lt (prefix_len (λ y. not (p y)) xs) (length xs))))
+    (some_shift (prefix_len (λ y. not (p y)) xs) (nat_lt (prefix_len (λ y. not (p y)) xs) (length xs))))
 
 -- `position` goes down the list
 pub position-cons : {X : Type 0} (p : X → Bool) (x : X) (xs : List X) → position p (x ∷ xs) ≡ cond (p x) (Some 0) (option_map suc (position p xs))
