@@ -3,6 +3,7 @@ pub mod EditAlike
 pub mod EditLemmas
 pub mod EditText
 pub mod FormLemmas
+mod NotesExamples
 pub mod NotesLemmas
 pub mod ReadsLemmas
 pub mod RepairLemmas

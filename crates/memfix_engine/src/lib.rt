@@ -19,3 +19,6 @@ pub use command::memfix;
 pub use refusal::{RepairRefusal, SourceRefusal};
 pub use repairs::{SOURCE_LIMIT, repair};
 pub use source::read_source;
+
+#[cfg(test)]
+mod tests;
