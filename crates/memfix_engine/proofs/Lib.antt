@@ -1,7 +1,10 @@
+pub mod CommandLemmas
 pub mod EditAlike
 pub mod EditLemmas
 pub mod EditText
 pub mod FormLemmas
+mod NotesExamples
+pub mod NotesLemmas
 pub mod ReadsLemmas
 pub mod RepairLemmas
 pub mod ScanExamples

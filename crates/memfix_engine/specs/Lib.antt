@@ -1,5 +1,8 @@
+pub mod Command
 pub mod Edit
 pub mod Form
+pub mod Notes
+pub mod Outcome
 pub mod Reading
 pub mod Reads
 pub mod Refusal

@@ -1,0 +1,125 @@
+use super::*;
+use mf_io::{MemSink, MemSource};
+use std::alloc::{AllocError, Global};
+use std::test::Fail;
+
+const USAGE: &str =
+    "memfix: usage: repair [--cert], verify, replay --steps N [--fails BITS] [--input TEXT], selfrun N\n";
+
+const ONE: &str =
+    "int main(void) { int *p = malloc(sizeof(int)); *p = 7; printf(\"%d\\n\", *p); return 0; }";
+
+const ONE_REPAIRED: &str =
+    "int main(void) { int *p = malloc(sizeof(int)); *p = 7; printf(\"%d\\n\", *p);  free(p); return 0; }";
+
+const GUARDED: &str =
+    "int main(void) { int *p = malloc(sizeof(int)); if (p == NULL) { return 1; } *p = 7; printf(\"%d\\n\", *p); return 0; }";
+
+// The words and the source of a call, and the calls of source, output and notes that fail: from 1,
+// or 0 for none.
+#[derive(Drop)]
+struct Call<'a> {
+    words: &'a str,
+    source: &'a str,
+    fails: (u64, u64, u64),
+}
+
+// What it answers, and how often it read.
+#[derive(Drop)]
+struct Answer {
+    status: u8,
+    output: Vec<u8>,
+    notes: Vec<u8>,
+    reads: u64,
+}
+
+fn words_of(alloc: Global, text: &str) -> Result<Vec<String>, AllocError> {
+    let mut words = Vec::new(alloc);
+    for word in text.split_whitespace() {
+        words.push(String::from_str(alloc, word)?)?;
+    }
+    Ok(words)
+}
+
+fn answer_of(alloc: Global, call: &Call) -> Result<Answer, AllocError> {
+    let words = words_of(alloc, call.words)?;
+    let mut bytes = Vec::new(alloc);
+    bytes.extend_from_slice(call.source.as_bytes())?;
+    let (read, write, note) = call.fails;
+    let mut source = MemSource::new(bytes, 7, vec![in alloc; read]?);
+    let mut output = MemSink::new(alloc, 200, 9, vec![in alloc; write]?)?;
+    let mut notes = MemSink::new(alloc, 200, 9, vec![in alloc; note]?)?;
+    let status = memfix(
+        alloc,
+        words.as_slice(),
+        &mut source,
+        &mut output,
+        &mut notes,
+    );
+    let MemSink { taken: output, .. } = output;
+    let MemSink { taken: notes, .. } = notes;
+    Ok(Answer {
+        status,
+        output,
+        notes,
+        reads: source.calls,
+    })
+}
+
+#[test]
+fn each_call_has_its_status_and_its_bytes(rt: HostRuntime) -> Result<(), Fail> {
+    for (words, source, fails, status, output, notes) in [
+        ("repair", ONE, (0, 0, 0), 0, ONE_REPAIRED, ""),
+        (
+            "repair",
+            GUARDED,
+            (0, 0, 0),
+            1,
+            "",
+            "memfix: line 1, column 1: not built yet\n",
+        ),
+        ("repair --loud", ONE, (0, 0, 0), 2, "", USAGE),
+        ("", ONE, (0, 0, 0), 2, "", USAGE),
+        // A fault in mid-stream.
+        ("repair", ONE, (2, 0, 0), 5, "", "memfix: read fault\n"),
+        ("repair", ONE, (0, 2, 0), 6, "int main(", ""),
+        ("repair", GUARDED, (0, 0, 2), 6, "", "memfix: l"),
+    ] {
+        let call = Call {
+            words,
+            source,
+            fails,
+        };
+        let answer = answer_of(rt.alloc(), &call)?;
+        assert_eq!(rt; answer.status, status, "{words} {source}");
+        assert_eq!(rt; answer.output.as_slice(), output.as_bytes());
+        assert_eq!(rt; answer.notes.as_slice(), notes.as_bytes());
+        assert_eq!(rt; answer.reads == 0, status == 2);
+    }
+    Ok(())
+}
+
+#[test]
+fn a_byte_more_than_the_limit_is_too_long(rt: HostRuntime) -> Result<(), Fail> {
+    let alloc = rt.alloc();
+    let words = words_of(alloc, "repair")?;
+    let mut bytes = Vec::new(alloc);
+    bytes.resize(SOURCE_LIMIT + 1, b' ')?;
+    let mut source = MemSource::new(bytes, 4096, Vec::new(alloc));
+    let mut output = MemSink::new(alloc, 200, 200, Vec::new(alloc))?;
+    let mut notes = MemSink::new(alloc, 200, 200, Vec::new(alloc))?;
+    let status = memfix(
+        alloc,
+        words.as_slice(),
+        &mut source,
+        &mut output,
+        &mut notes,
+    );
+    assert_eq!(rt; status, 4);
+    assert_eq!(rt; output.bytes().len(), 0);
+    assert_eq!(rt;
+        notes.bytes(),
+        b"memfix: limit: more than 1048576 bytes\n".as_slice()
+    );
+    Ok(())
+}
