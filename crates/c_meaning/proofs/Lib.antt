@@ -1,0 +1,5 @@
+pub mod Evals
+pub mod Flat
+pub mod Held
+pub mod Items
+pub mod Plain
