@@ -3,3 +3,4 @@ pub mod Flat
 pub mod Held
 pub mod Items
 pub mod Plain
+pub mod Returns
