@@ -4,3 +4,4 @@ pub mod Held
 pub mod Items
 pub mod Plain
 pub mod Returns
+pub mod Courses
