@@ -4,3 +4,4 @@ pub mod ReadsLemmas
 pub mod ScanExamples
 pub mod ScanLemmas
 pub mod ScanLoop
+pub mod StraightRuns
