@@ -1,26 +1,25 @@
 -- Whole runs of a straight main: plain items and then a return. After s steps control stands before
 -- item s, or the run has ended.
-use Rattle.std.proofs.Common.{◌≡◌, ◌≢◌, ℕ, zero, suc, ◌+◌, ◌≤◌, Bool, true, false, ℤ, List, [], ◌∷◌, map, length, slice_get, Option, Some, None, refl, ap, sym, subst, ◌∙◌, arith, All, IsTrue}
+use Rattle.std.proofs.Common.{◌≡◌, ℕ, zero, suc, ◌+◌, ◌≤◌, Bool, true, false, ℤ, List, [], ◌∷◌, map, length, slice_get, Some, None, refl, ap, sym, subst, ◌∙◌, arith, All, IsTrue}
 use Rattle.std.proofs.lemmas.List.{length-map}
 use Rattle.c_tree.specs.declared.expr.Expr.TheVariants as expr
 use Rattle.c_tree.specs.declared.program.Free.{Free}
 use Rattle.c_tree.specs.declared.program.Program.{Program}
 use Rattle.c_meaning.specs.declared.machine.Value.{Value}
-use Rattle.c_meaning.specs.declared.machine.Object.{Object}
 use Rattle.c_meaning.specs.declared.machine.Kind.{Kind}
 use Rattle.c_meaning.specs.declared.machine.Kind.TheVariants as kind
 use Rattle.c_meaning.specs.declared.machine.Ending.{Ending}
 use Rattle.c_meaning.specs.declared.machine.Ending.TheVariants.{Running, Returned, Fault}
 use Rattle.c_meaning.specs.declared.machine.Machine.{Machine}
-use Rattle.c_meaning.specs.Machine.{start, start_value, dead}
+use Rattle.c_meaning.specs.Machine.{start, start_value}
 use Rattle.c_meaning.specs.Frees.{AllVars}
 use Rattle.c_meaning.specs.Place.{Action, Leave, after_in_fun}
 use Rattle.c_meaning.specs.Step.{step, walked, counted, while_running}
-use Rattle.c_meaning.specs.Safe.{run, AreBytes, Safe, Same, LooksLike, IsFault}
-use Rattle.c_meaning.proofs.Flat.{running, Stands}
-use Rattle.c_meaning.proofs.Held.{slots_of, objects_of}
+use Rattle.c_meaning.specs.Safe.{run, Safe, Same, LooksLike, IsFault}
+use Rattle.c_meaning.proofs.Flat.{Stands}
+use Rattle.c_meaning.proofs.Held.{objects_of}
 use Rattle.c_meaning.proofs.Plain.{IsPlain, At, Went, on, stopped, IsReadFault, went_on, same_step}
-use Rattle.c_meaning.proofs.Returns.{returned, plain_return, freeing_return, all_dead}
+use Rattle.c_meaning.proofs.Returns.{plain_return, freeing_return, all_dead}
 
 -- main from item i on, where n variables are declared: plain items behind empty gaps, which declare
 -- the variables below l, and then the return of k behind a gap with those frees

@@ -1,13 +1,13 @@
 -- The values of expressions, one level opened.
-use Rattle.std.proofs.Common.{◌≡◌, ℕ, ℤ, pos, false, List, [], ◌∷◌, slice_get, Option, Some, None, Result, Ok, Err, refl, ap, sym, ◌∙◌}
-use Rattle.c_tree.specs.declared.expr.Expr.{Expr, Expr-F, out-Expr, fold-Expr, fold-roll-Expr}
+use Rattle.std.proofs.Common.{◌≡◌, ℕ, ℤ, pos, false, List, [], ◌∷◌, slice_get, Some, Result, Ok, refl, ap, sym, ◌∙◌}
+use Rattle.c_tree.specs.declared.expr.Expr.{Expr, fold-roll-Expr}
 use Rattle.c_tree.specs.declared.expr.Expr.TheVariants as expr
 use Rattle.c_tree.specs.declared.expr.Expr.TheOpen as open_expr
 use Rattle.c_meaning.specs.declared.machine.Value.{Value}
 use Rattle.c_meaning.specs.declared.machine.Value.TheVariants as value
 use Rattle.c_meaning.specs.declared.machine.Object.{Object}
 use Rattle.c_meaning.specs.declared.machine.Kind.TheVariants.{NullDeref}
-use Rattle.c_meaning.specs.Eval.{Place, Slot, Cell, Flaw, flaw, ◌>>=◌, slot_of, read, value_at, cell_of, eval_layer, eval, place_layer, place_of}
+use Rattle.c_meaning.specs.Eval.{Slot, Cell, Flaw, flaw, ◌>>=◌, slot_of, read, value_at, cell_of, eval_layer, eval, place_layer, place_of}
 
 pub eval_var : (slots : List Value) (objects : List Object) (x at : ℕ) → eval slots objects (expr.Var x at) ≡ value_at slots objects at (Slot x)
 eval_var slots objects x at =

@@ -1,5 +1,5 @@
 -- A step over the flat body of main: a gap and the one action of the item behind it.
-use Rattle.std.proofs.Common.{◌≡◌, ℕ, zero, suc, ◌+◌, Bool, true, false, List, [], ◌∷◌, length, slice_get, Option, Some, None, Result, Ok, Err, refl, ap, sym, ◌∙◌, arith}
+use Rattle.std.proofs.Common.{◌≡◌, ℕ, suc, ◌+◌, Bool, List, [], ◌∷◌, slice_get, None, refl, arith}
 use Rattle.c_tree.specs.declared.program.Program.{Program}
 use Rattle.c_tree.specs.declared.program.Free.{Free}
 use Rattle.c_meaning.specs.declared.machine.Value.{Value}
@@ -7,8 +7,8 @@ use Rattle.c_meaning.specs.declared.machine.Object.{Object}
 use Rattle.c_meaning.specs.declared.machine.Frame.{Frame}
 use Rattle.c_meaning.specs.declared.machine.Ending.TheVariants.{Running}
 use Rattle.c_meaning.specs.declared.machine.Machine.{Machine}
-use Rattle.c_meaning.specs.Place.{Action, Spot, AtGap, AtAction, spot_in_fun, after_in_fun}
-use Rattle.c_meaning.specs.Step.{all_freed, effect, outcome, walked, at_spot, here, moved, onward, counted, step}
+use Rattle.c_meaning.specs.Place.{Action, AtGap, AtAction, spot_in_fun, after_in_fun}
+use Rattle.c_meaning.specs.Step.{all_freed, effect, outcome, onward, step}
 
 -- control in main
 abbrev pub frame_at : List ℕ → Frame

@@ -1,12 +1,11 @@
 -- What the variables of a straight program hold, one after another: a null pointer, or an object of one
 -- cell of their own, with that content. Objects are numbered from k on.
-use Rattle.std.proofs.Common.{◌≡◌, ℕ, zero, suc, ◌+◌, ◌<◌, ◌≤◌, Bool, true, false, pos, List, [], ◌∷◌, ◌++◌, map, length, slice_get, slice_set, unwrap_or, drop, Option, Some, None, refl, ap, sym, subst, ◌∙◌, arith, append_assoc}
+use Rattle.std.proofs.Common.{◌≡◌, ℕ, zero, suc, ◌+◌, ◌<◌, Bool, true, false, pos, List, [], ◌∷◌, ◌++◌, length, slice_get, slice_set, Option, Some, None, refl, ap, sym, ◌∙◌, arith}
 use Rattle.c_meaning.specs.declared.machine.Value.{Value}
 use Rattle.c_meaning.specs.declared.machine.Value.TheVariants as value
 use Rattle.c_meaning.specs.declared.machine.Object.{Object}
-use Rattle.c_meaning.specs.declared.machine.Machine.{Machine}
 use Rattle.c_meaning.specs.Eval.{slot_of, is_freed, Slot}
-use Rattle.c_meaning.specs.Machine.{altered, with_cell, dead}
+use Rattle.c_meaning.specs.Machine.{altered, with_cell}
 use Rattle.c_meaning.specs.Step.{granted}
 use Rattle.c_meaning.proofs.Evals.{cell_object}
 use Rattle.c_meaning.proofs.Flat.{running}

@@ -1,5 +1,5 @@
 -- The items of a flat body: where control stands before and behind the one action of each.
-use Rattle.std.proofs.Common.{◌≡◌, ℕ, zero, suc, ◌+◌, ◌<◌, Bool, true, false, ◌==◌, List, [], ◌∷◌, length, slice_get, Option, Some, None, option_map, refl, ap, sym, subst, ◌∙◌, arith}
+use Rattle.std.proofs.Common.{◌≡◌, ℕ, ◌<◌, Bool, false, ◌==◌, [], ◌∷◌, length, slice_get, Option, Some, refl, ap, ◌∙◌, arith}
 use Rattle.std.specs.Prelude.{if◌then◌else◌}
 use Rattle.std.proofs.lemmas.Bool.{ne_eqb}
 use Rattle.std.proofs.lemmas.Option.{slice_get_within}
@@ -9,7 +9,7 @@ use Rattle.c_tree.specs.declared.program.Item.{Item, Item-F, out-Item}
 use Rattle.c_tree.specs.declared.program.Arm.{Arm}
 use Rattle.c_tree.specs.declared.program.Program.{Program}
 use Rattle.c_tree.specs.declared.program.FunDef.{FunDef}
-use Rattle.c_meaning.specs.Place.{Action, Spot, AtGap, AtAction, To, Onward, item_at, gap_at, spot_in, spot_of, entry_of, behind_action, brace_of, spot_in_fun, after_in_fun, after, onward_path, spot_or_brace}
+use Rattle.c_meaning.specs.Place.{Action, Spot, AtAction, To, Onward, item_at, gap_at, spot_in, spot_of, entry_of, behind_action, brace_of, spot_in_fun, after_in_fun, after, onward_path}
 use Rattle.c_meaning.proofs.Flat.{Stands}
 
 -- an item of one action
@@ -29,14 +29,14 @@ stands_at p f i piece layer a main h k one =
     let item : item_at f.body i ≡ Some layer = item_is f.body i piece layer h k in
     record {
       gap = ap (λ (o : Option FunDef). spot_in_fun o (i ∷ [])) main
-      ∙ ap (λ (b : Bool). if b then AtAction Action.Close else spot_of (i ∷ []) f.body) apart
-      ∙ ap (gap_at f.body i) h;
+          ∙ ap (λ (b : Bool). if b then AtAction Action.Close else spot_of (i ∷ []) f.body) apart
+          ∙ ap (gap_at f.body i) h;
       entered = ap (λ (o : Option FunDef). after_in_fun o (i ∷ [])) main
-      ∙ ap (λ (o : Option (Item-F Item Arm Block Piece)). onward_path f.body (entry_of i o)) item
-      ∙ ap (onward_path f.body) (one.entry i);
+          ∙ ap (λ (o : Option (Item-F Item Arm Block Piece)). onward_path f.body (entry_of i o)) item
+          ∙ ap (onward_path f.body) (one.entry i);
       action = ap (λ (o : Option FunDef). spot_in_fun o (i ∷ 0 ∷ [])) main
-      ∙ ap (λ (o : Option (Item-F Item Arm Block Piece)). spot_in (spot_of []) o 0 []) item
-      ∙ one.spot (spot_of []);
+          ∙ ap (λ (o : Option (Item-F Item Arm Block Piece)). spot_in (spot_of []) o 0 []) item
+          ∙ one.spot (spot_of []);
     }
 
 pub onward_at : (p : Program) (f : FunDef) (i : ℕ) (piece : Piece) (layer : Item-F Item Arm Block Piece) (next : Onward) →

@@ -5,3 +5,4 @@ pub mod Items
 pub mod Plain
 pub mod Returns
 pub mod Courses
+pub mod Examples

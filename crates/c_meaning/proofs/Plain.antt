@@ -1,6 +1,6 @@
 -- The steps of a straight program before its return: each leaves a machine in which nothing is freed,
 -- or ends the run by a fault that no free raised.
-use Rattle.std.proofs.Common.{◌≡◌, ℕ, zero, suc, ◌+◌, ◌<◌, ◌≤◌, Bool, true, false, ℤ, pos, List, [], ◌∷◌, ◌++◌, length, slice_get, drop, Option, Some, None, Result, Ok, Err, refl, ap, sym, subst, ◌∙◌, arith, length-append}
+use Rattle.std.proofs.Common.{◌≡◌, ℕ, suc, ◌+◌, ◌<◌, ◌≤◌, Bool, false, ℤ, pos, List, [], ◌∷◌, ◌++◌, length, slice_get, drop, Option, Some, None, Result, Ok, Err, refl, ap, sym, subst, ◌∙◌, arith, length-append}
 use Rattle.c_tree.specs.declared.expr.Expr.{Expr}
 use Rattle.c_tree.specs.declared.expr.Expr.TheVariants as expr
 use Rattle.c_tree.specs.declared.expr.Op.TheVariants.{Put}
@@ -13,13 +13,13 @@ use Rattle.c_meaning.specs.declared.machine.Value.TheVariants as value
 use Rattle.c_meaning.specs.declared.machine.Object.{Object}
 use Rattle.c_meaning.specs.declared.machine.Kind.{Kind}
 use Rattle.c_meaning.specs.declared.machine.Kind.TheVariants as kind
-use Rattle.c_meaning.specs.declared.machine.Ending.TheVariants.{Running, Fault}
+use Rattle.c_meaning.specs.declared.machine.Ending.TheVariants.{Fault}
 use Rattle.c_meaning.specs.declared.machine.Machine.{Machine}
-use Rattle.c_meaning.specs.Eval.{Place, Slot, Cell, Flaw, flaw, ◌>>=◌, slot_of, read, eval, place_of}
+use Rattle.c_meaning.specs.Eval.{Place, Slot, Cell, Flaw, flaw, ◌>>=◌, read, eval}
 use Rattle.c_meaning.specs.Machine.{stored}
 use Rattle.c_meaning.specs.Place.{Action, Request, Store, Print, after_in_fun}
-use Rattle.c_meaning.specs.Step.{effect, outcome, requested, granted, fails_next, printed, step}
-use Rattle.c_meaning.proofs.Evals.{cell_object, eval_const, place_var, place_at_null, place_at_cell, eval_at_null, eval_at_cell}
+use Rattle.c_meaning.specs.Step.{effect, outcome, requested, fails_next, printed, step}
+use Rattle.c_meaning.proofs.Evals.{eval_const, place_var, place_at_null, place_at_cell, eval_at_null, eval_at_cell}
 use Rattle.c_meaning.proofs.Flat.{running, Stands, opens}
 use Rattle.c_meaning.proofs.Held.{slots_of, objects_of, none_freed, Rewritten, Looks, empty, full, looks, given, granted_held}
 

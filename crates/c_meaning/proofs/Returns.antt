@@ -1,7 +1,7 @@
 -- The return of a straight program: its gap frees each object once, and main ends.
-use Rattle.std.proofs.Common.{◌≡◌, ℕ, zero, suc, ◌+◌, ◌<◌, ◌≤◌, Bool, true, false, ℤ, List, [], ◌∷◌, ◌++◌, map, length, slice_get, Option, Some, None, Result, Ok, Err, refl, ap, sym, subst, ◌∙◌, arith, append_assoc, length-append, All, IsTrue}
+use Rattle.std.proofs.Common.{◌≡◌, ℕ, suc, ◌+◌, ◌≤◌, Bool, false, ℤ, List, [], ◌∷◌, ◌++◌, map, length, slice_get, Option, Some, None, Result, Ok, refl, ap, sym, ◌∙◌, arith, append_assoc, length-append, All, IsTrue}
 use Rattle.std.proofs.lemmas.List.Elements.{All-map}
-use Rattle.c_tree.specs.declared.expr.Expr.{Expr, Expr-F, out-Expr}
+use Rattle.c_tree.specs.declared.expr.Expr.{Expr, Expr-F}
 use Rattle.c_tree.specs.declared.expr.Expr.TheVariants as expr
 use Rattle.c_tree.specs.declared.program.Free.{Free}
 use Rattle.c_tree.specs.declared.program.Program.{Program}
@@ -11,12 +11,12 @@ use Rattle.c_meaning.specs.declared.machine.Object.{Object}
 use Rattle.c_meaning.specs.declared.machine.Ending.TheVariants.{Running, Returned}
 use Rattle.c_meaning.specs.declared.machine.Machine.{Machine}
 use Rattle.c_meaning.specs.Eval.{Flaw, ◌>>=◌, slot_of, is_freed}
-use Rattle.c_meaning.specs.Machine.{altered, dead}
+use Rattle.c_meaning.specs.Machine.{dead}
 use Rattle.c_meaning.specs.Frees.{AllVars, none, more}
 use Rattle.c_meaning.specs.Place.{Leave, after_in_fun}
-use Rattle.c_meaning.specs.Step.{freed, freed_result, freed_layer, freed_value, freed_once, offset_layer, while_running, all_freed, effect, outcome, left, step}
+use Rattle.c_meaning.specs.Step.{freed, freed_result, freed_layer, freed_value, freed_once, offset_layer, while_running, all_freed, outcome, left, step}
 use Rattle.c_meaning.proofs.Evals.{cell_object, eval_const}
-use Rattle.c_meaning.proofs.Flat.{running, frame_at, Stands, opens}
+use Rattle.c_meaning.proofs.Flat.{running, Stands, opens}
 use Rattle.c_meaning.proofs.Held.{slots_of, objects_of, get_seam, altered_seam}
 use Rattle.c_meaning.proofs.Plain.{At}
 
