@@ -3,3 +3,4 @@ pub mod Eval
 pub mod Place
 pub mod Step
 pub mod Safe
+pub mod Frees

@@ -11,4 +11,5 @@ pub mod ScanExamples
 pub mod ScanLemmas
 pub mod ScanLoop
 pub mod SoundLemmas
+pub mod StraightRuns
 pub mod VarLemmas

@@ -14,6 +14,9 @@ use Rattle.c_tree.specs.declared.program.Program.{Program}
 use Rattle.c_tree.specs.Fill.{fill, free_of}
 use Rattle.c_tree.specs.Alike.{IsAlike, bare_free}
 use Rattle.c_tree.proofs.Alikes.{bare_variable}
+use Rattle.c_meaning.specs.Frees as all
+use Rattle.c_meaning.specs.Frees.{AllVars}
+use Rattle.c_meaning.specs.Safe.{Safe, Same}
 use Rattle.memfix_engine.specs.declared.draft.Want.{Want}
 use Rattle.memfix_engine.specs.declared.draft.Pattern.TheVariants as pattern
 use Rattle.memfix_engine.specs.declared.draft.Deed.TheVariants as deed
@@ -32,6 +35,7 @@ use Rattle.memfix_engine.proofs.FormLemmas.{matches-length, Spells-step_of}
 use Rattle.memfix_engine.proofs.SoundLemmas.{IsLettered, AreLettered, IsKept, Steps-lettered, read_plain}
 use Rattle.memfix_engine.proofs.EditText.{edited_straight}
 use Rattle.memfix_engine.proofs.EditAlike.{alike_straight}
+use Rattle.memfix_engine.proofs.StraightRuns.{safe_straight, same_straight}
 
 -- the steps of the frees that are written
 
@@ -118,6 +122,15 @@ read_from-append : (xs ys : List Step) (r : Reading) → read_from r (xs ++ ys) 
 read_from-append [] ys r = refl
 read_from-append (s ∷ xs) ys r = on_append xs ys (stepped r s) (read_from-append xs ys)
 
+-- they are of all variables, in their order
+all_released : (at i : ℕ) (ws : List VarDef) (n : ℕ) → n ≡ i + length ws → AllVars i n (frees_from at i ws)
+all_released at i [] n e =
+    let same : i ≡ n = omega (arith, e) in
+    subst (λ (m : ℕ). AllVars i m []) same all.none
+all_released at i (w ∷ ws) n e =
+    all.more (start_at (free_tokens_of at w.name) 2) (step_of pattern.Free (free_tokens_of at w.name)).start (step_of pattern.Free (free_tokens_of at w.name)).end
+    (all_released (at + length (free_text w.name)) (i + 1) ws n (omega (arith, e)))
+
 -- names
 
 letters_of : (ws : List VarDef) → IsLettered ws → AreLetters (map (λ w. w.name) ws)
@@ -151,11 +164,13 @@ program_reading : (d : Draft) (p : Program) (o : Option Reading) → option_map 
 program_reading d p None h = absurd cc
 program_reading d p (Some r) h = record { reading = r; found = refl; is = some_whole p (whole_of d r) h }
 
--- the text w reads as a program that is p filled by the choice
+-- the text w reads as a program that is p filled by the choice, is safe, and does the same as p
 record ReadsFilled (w : List ℕ) (p : Program) : Type 0 where
   filled : Program
   reads : Reads w filled
   alike : IsAlike filled (fill p (choice_of p))
+  safe : Safe filled
+  same : Same p filled
 
 reads_filled : (b : List ℕ) (ts : List Token) (d : Draft) (r : Reading) (t : Token) (us : List Token) → Scans b ts → (form : IsForm ts d)
     → form.tail ≡ t ∷ us → IsKept r → read_from nothing_read d.steps ≡ Some r → ReadsFilled (edited b (whole_of d r) (choice_of (whole_of d r))) (whole_of d r)
@@ -195,6 +210,7 @@ reads_filled b ts d r t us s form tail kept read =
     ∙ ap (option_and_then (λ (k : Reading). read_from k (releases t.start names))) read
     ∙ read_releases t.start 0 r.vars r found
     ∙ ap (λ (fs : List Free). Some (with_frees r (fs ++ freed))) kept.sound.frees in
+    let all_freed : AllVars 0 (length r.vars) freed = all_released t.start 0 r.vars (length r.vars) (omega arith) in
     let number : draft.number ≡ d.number =
     number_at-shifted (length text) (t ∷ us) 1 ∙ ap (λ (x : List Token). number_at x 1) (sym tail) ∙ sym (ap (λ (x : Draft). x.number) form.read) in
     record {
@@ -207,6 +223,8 @@ reads_filled b ts d r t us s form tail kept read =
         program = ap (option_map (whole_of draft)) reading;
       };
       alike = alike_straight d draft r freed kept.sound number (bare_released (length r.pieces) t.start 0 r.vars);
+      safe = safe_straight draft r freed kept.sound all_freed;
+      same = same_straight d draft r freed kept.sound number all_freed;
     }
 
 filled_text : (b : List ℕ) (p : Program) → IsBuilt b p → ReadsFilled (edited b p (choice_of p)) p
@@ -223,4 +241,4 @@ filled_text b p h =
 pub repaired : (b w : List ℕ) (p : Program) → IsBuilt b p → w ≡ edited b p (choice_of p) → Repairs b w
 repaired b w p h e =
     let f = filled_text b p h in
-    record { program = p; filled = f.filled; built = h; edits = e; reads = subst (λ (x : List ℕ). Reads x f.filled) (sym e) f.reads; alike = f.alike }
+    record { program = p; filled = f.filled; built = h; edits = e; reads = subst (λ (x : List ℕ). Reads x f.filled) (sym e) f.reads; alike = f.alike; safe = f.safe; same = f.same }

@@ -6,6 +6,7 @@ use Rattle.c_tree.specs.declared.choice.Choice.{Choice}
 use Rattle.c_tree.specs.declared.program.Program.{Program}
 use Rattle.c_tree.specs.Fill.{fill}
 use Rattle.c_tree.specs.Alike.{IsAlike}
+use Rattle.c_meaning.specs.Safe.{Safe, Same}
 use Rattle.memfix_engine.specs.Reads.{Reads, IsBuilt}
 use Rattle.memfix_engine.specs.Edit.{edited}
 
@@ -17,7 +18,7 @@ abbrev pub choice_of : Program → Choice
 choice_of p = record { puts = map (put_of (p.gaps - 2)) (range_with_len 0 (length p.vars - 1)) }
 
 -- w is the repaired text of b: b reads as p, w is b with the choice's frees, and w reads as q, which
--- is p filled by that choice
+-- is p filled by that choice, is safe, and does the same as p
 pub record Repairs (b w : List ℕ) : Type 0 where
   pub program : Program
   pub filled : Program
@@ -25,3 +26,5 @@ pub record Repairs (b w : List ℕ) : Type 0 where
   pub edits : w ≡ edited b program (choice_of program)
   pub reads : Reads w filled
   pub alike : IsAlike filled (fill program (choice_of program))
+  pub safe : Safe filled
+  pub same : Same program filled
