@@ -1,6 +1,15 @@
 //! The tokens of a C text.
 #![tactic(auto)]
 
+mod bytes;
+mod piece;
+mod reading;
+mod refusal;
+mod spans;
 mod token;
+mod words;
 
+pub use piece::{Class, Fault, Next, Piece, Quote, Stop};
+pub use reading::Reading;
+pub use refusal::LexRefusal;
 pub use token::{Kind, Token, Tokens};

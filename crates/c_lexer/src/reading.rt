@@ -1,0 +1,10 @@
+use crate::{Fault, Token};
+use mf_list::Seq;
+
+/// The tokens of a text up to its end or its first lexical fault.
+#[derive(Debug, Drop)]
+pub struct Reading {
+    pub tokens: Seq<Token>,
+    pub last_comment: Option<(usize, usize)>,
+    pub fault: Option<(Fault, usize)>,
+}
