@@ -1,1 +1,4 @@
 pub mod Places
+pub mod Decimals
+pub mod Quoted
+pub mod Longest

@@ -1,5 +1,5 @@
 -- The pieces that a text is cut into (C99 6.4 and 6.4.9), each with the condition on it.
-use Rattle.std.specs.Prelude.{◌≡◌, ℕ, ◌+◌, ◌-◌, ◌*◌, ◌<◌, ◌≤◌, Bool, true, false, ◌&&◌, ◌||◌, not, ◌==◌, nat_lt, List, [], ◌∷◌, Option, Some, None, if◌then◌else◌, nat_eq, codes, length, take, drop, fold, pos}
+use Rattle.std.specs.Prelude.{◌≡◌, ℕ, ◌+◌, ◌-◌, ◌*◌, ◌<◌, ◌≤◌, Bool, true, false, ◌&&◌, ◌||◌, not, ◌==◌, nat_lt, List, [], ◌∷◌, Option, Some, None, if◌then◌else◌, nat_eq, codes, length, take, drop, fold, ℤ, pos}
 use Rattle.std.specs.List.{prefix_len, list_all}
 use Rattle.c_lexer.specs.declared.token.Kind.{Kind}
 use Rattle.c_lexer.specs.declared.token.Kind.TheVariants as kind
@@ -59,26 +59,32 @@ block_comment xs =
 abbrev pub word_piece : List ℕ → Piece
 word_piece xs = let n = prefix_len is_word_byte xs in piece.Lexeme (kind_of_word (take n xs)) n
 
--- `0`, or a digit other than 0 and then digits
+-- digits, the first of which is `0` only where it stands alone; the run begins with a digit
 abbrev pub is_decimal : List ℕ → Bool
-is_decimal [] = false
-is_decimal (d ∷ []) = is_digit d
-is_decimal (d ∷ e ∷ rest) = not (d == 48) && list_all is_digit (d ∷ e ∷ rest)
+is_decimal run = list_all is_digit run && (length run == 1 || not (begins run (48 ∷ [])))
+
+abbrev pub with_digit : ℕ → ℕ → ℕ
+with_digit value digit = value * 10 + (digit - 48)
 
 abbrev pub decimal_value : List ℕ → ℕ
-decimal_value digits = fold (λ value d. value * 10 + (d - 48)) 0 digits
+decimal_value digits = fold with_digit 0 digits
 
 -- the greatest value of an int
 abbrev pub greatest : ℕ
 greatest = 2147483647
 
--- the longest front of letters, digits, `_` and `.`
-abbrev pub number_by : List ℕ → ℕ → Piece
-number_by run n =
-    if is_decimal run
-    then (if nat_lt greatest (decimal_value run) then piece.Bad WideNumber 0 else piece.Lexeme (kind.Number (pos (decimal_value run))) n)
-    else piece.Lexeme (kind.Refused number_form) n
+-- the value as an int, and None where it is above the greatest
+abbrev pub int_of : ℕ → Option ℤ
+int_of n = if nat_lt greatest n then None else Some (pos n)
 
+abbrev pub decimal_piece : Option ℤ → ℕ → Piece
+decimal_piece None n = piece.Bad WideNumber 0
+decimal_piece (Some value) n = piece.Lexeme (kind.Number value) n
+
+abbrev pub number_by : List ℕ → ℕ → Piece
+number_by run n = if is_decimal run then decimal_piece (int_of (decimal_value run)) n else piece.Lexeme (kind.Refused number_form) n
+
+-- the longest front of letters, digits, `_` and `.`
 abbrev pub number_piece : List ℕ → Piece
 number_piece xs = let n = prefix_len is_number_byte xs in number_by (take n xs) n
 

@@ -2,7 +2,10 @@
 #![tactic(auto)]
 
 mod bytes;
+mod numbers;
 mod piece;
+mod punctuators;
+mod quotes;
 mod reading;
 mod refusal;
 mod spans;
