@@ -2,3 +2,4 @@ pub mod Places
 pub mod Decimals
 pub mod Quoted
 pub mod Longest
+pub mod Scanned

@@ -3,3 +3,4 @@ pub mod Opening
 pub mod Words
 pub mod Pieces
 pub mod Scan
+pub mod Front

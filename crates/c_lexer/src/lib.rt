@@ -2,6 +2,7 @@
 #![tactic(auto)]
 
 mod bytes;
+mod front;
 mod numbers;
 mod piece;
 mod punctuators;

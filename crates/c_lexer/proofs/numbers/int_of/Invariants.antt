@@ -6,5 +6,5 @@ use Rattle.c_lexer.proofs.numbers.int_of.Given as goal
 abbrev pub invariant-loop-digit : goal.invariant-loop-digit
 invariant-loop-digit l = record {
   rest : fold with_digit l.value (drop l.digit-index l.digits) ≡ decimal_value l.digits;
-  small : l.value ≤ greatest
+  small : l.value ≤ greatest;
 }

@@ -19,7 +19,7 @@ loop-n-preserved c =
 
 pub returns-clause-piece : goal.returns-clause-piece
 returns-clause-piece c = (
-    refl,
-    refl,
-    λ m within. none_from c.args.rest.now 0 none_of_nothing (λ k above inside. c.loop-n.invariant.longer k (omega arith) inside) m (omega arith) within,
-  )
+  refl,
+  refl,
+  λ m within. none_from c.args.rest.now 0 none_of_nothing (λ k above inside. c.loop-n.invariant.longer k (omega arith) inside) m (omega arith) within,
+)

@@ -6,7 +6,7 @@ use Rattle.c_lexer.proofs.punctuators.punctuator.Given as goal
 abbrev pub invariant-loop-n : goal.invariant-loop-n
 invariant-loop-n l = record {
   within : l.n ≤ length l.rest;
-  longer : (m : ℕ) → l.n < m → m ≤ length l.rest → punctuator_kind (take m l.rest) ≡ None
+  longer : (m : ℕ) → l.n < m → m ≤ length l.rest → punctuator_kind (take m l.rest) ≡ None;
 }
 
 abbrev pub decreases-loop-n : goal.decreases-loop-n

@@ -7,7 +7,7 @@ use Rattle.c_lexer.proofs.quotes.between_quotes.Given as goal
 abbrev pub invariant-loop-b : goal.invariant-loop-b
 invariant-loop-b l = record {
   within : l.at ≤ length l.text;
-  spelled : (values : List ℕ) (n : ℕ) (end : Next) → Spells l.quote (drop l.at l.text) values n end → Spells l.quote l.text (l.values ++ values) (l.at + n) end
+  spelled : (values : List ℕ) (n : ℕ) (end : Next) → Spells l.quote (drop l.at l.text) values n end → Spells l.quote l.text (l.values ++ values) (l.at + n) end;
 }
 
 abbrev pub decreases-loop-b : goal.decreases-loop-b
