@@ -4,3 +4,4 @@ pub mod Words
 pub mod Pieces
 pub mod Scan
 pub mod Front
+pub mod Nest

@@ -3,6 +3,8 @@
 
 mod bytes;
 mod front;
+mod mark;
+mod nest;
 mod numbers;
 mod piece;
 mod punctuators;
@@ -13,6 +15,7 @@ mod spans;
 mod token;
 mod words;
 
+pub use mark::Mark;
 pub use piece::{Class, Fault, Next, Piece, Quote, Stop};
 pub use reading::Reading;
 pub use refusal::LexRefusal;
