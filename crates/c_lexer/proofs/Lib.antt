@@ -3,3 +3,4 @@ pub mod Decimals
 pub mod Quoted
 pub mod Longest
 pub mod Scanned
+pub mod Unique

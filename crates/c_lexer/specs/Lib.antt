@@ -5,3 +5,4 @@ pub mod Pieces
 pub mod Scan
 pub mod Front
 pub mod Nest
+pub mod Outcome

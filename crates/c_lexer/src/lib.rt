@@ -1,6 +1,7 @@
 //! The tokens of a C text.
 #![tactic(auto)]
 
+mod answer;
 mod bytes;
 mod front;
 mod mark;
@@ -15,6 +16,7 @@ mod spans;
 mod token;
 mod words;
 
+pub use answer::lex;
 pub use mark::Mark;
 pub use piece::{Class, Fault, Next, Piece, Quote, Stop};
 pub use reading::Reading;
