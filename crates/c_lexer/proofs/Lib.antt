@@ -4,3 +4,4 @@ pub mod Quoted
 pub mod Longest
 pub mod Scanned
 pub mod Unique
+mod Examples

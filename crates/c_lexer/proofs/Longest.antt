@@ -1,11 +1,10 @@
 -- No punctuator has more than four bytes.
-use Rattle.std.proofs.Common.{◌≡◌, ℕ, ◌+◌, ◌-◌, ◌<◌, ◌≤◌, ◌≢◌, Bool, true, false, List, [], ◌∷◌, None, Some, Option, length, take, nat_eq, refl, ap, sym, ◌∙◌, arith, ⊎_elim, length-take-le}
+use Rattle.std.proofs.Common.{◌≡◌, ℕ, ◌+◌, ◌<◌, ◌≤◌, ◌≢◌, Bool, true, List, [], ◌∷◌, None, Some, length, take, nat_eq, refl, ap, ◌∙◌, arith, ⊎_elim, length-take-le}
 use Rattle.std.specs.Prelude.{nat_le}
 use Rattle.std.specs.List.{list_all}
 use Rattle.std.specs.Cmp.Lexicographic.{pointwise, unequal}
 use Rattle.std.proofs.lemmas.Bool.{cond-false, and_parts, leb-true, cases_lt}
 use Rattle.c_lexer.specs.Words.{place_of, punctuators, refused_punctuators, punctuator_kind, punctuator, refused_punctuator, or_else, as_kind}
-use Rattle.c_lexer.specs.declared.token.Kind.{Kind}
 use Rattle.c_lexer.specs.declared.token.Kind.TheVariants as kind
 
 abbrev all_short : List (List ℕ) → Bool

@@ -1,22 +1,19 @@
 -- A text has one reading: one list of tokens or one first fault, and never both.
-use Rattle.std.proofs.Common.{◌≡◌, ℕ, ◌+◌, ◌<◌, ◌≤◌, Bool, List, [], ◌∷◌, Option, Some, None, Result, Ok, Err, length, take, drop, sym, refl, ap, ◌∙◌, subst, ⊎_elim, arith}
+use Rattle.std.proofs.Common.{◌≡◌, ℕ, ◌+◌, Bool, List, ◌∷◌, Some, Result, Ok, Err, length, take, drop, sym, refl, ap, ◌∙◌, subst, ⊎_elim}
 use Rattle.std.proofs.lemmas.Bool.{cases_order}
-use Rattle.c_lexer.specs.declared.token.Kind.{Kind}
 use Rattle.c_lexer.specs.declared.token.Tokens.{Tokens}
 use Rattle.c_lexer.specs.declared.refusal.LexRefusal.{LexRefusal}
 use Rattle.c_lexer.specs.declared.refusal.LexRefusal.TheVariants as refusal
-use Rattle.c_lexer.specs.declared.piece.Fault.{Fault}
 use Rattle.c_lexer.specs.declared.piece.Class.{Class}
 use Rattle.c_lexer.specs.declared.piece.Class.TheVariants as class
 use Rattle.c_lexer.specs.declared.piece.Piece.{Piece}
 use Rattle.c_lexer.specs.declared.piece.Piece.TheVariants as piece
 use Rattle.c_lexer.specs.declared.piece.Quote.{Quote}
 use Rattle.c_lexer.specs.declared.piece.Next.{Next}
-use Rattle.c_lexer.specs.declared.piece.Next.TheVariants.{Plain, Escape}
 use Rattle.c_lexer.specs.declared.reading.Reading.{Reading}
 use Rattle.c_lexer.specs.Bytes.{class_of}
 use Rattle.c_lexer.specs.Words.{punctuator_kind}
-use Rattle.c_lexer.specs.Pieces.{next_of, Ends, Spells, none, plain, escape, IsQuoted, IsPunctuator, IsPiece}
+use Rattle.c_lexer.specs.Pieces.{Ends, Spells, none, plain, escape, IsQuoted, IsPunctuator, IsPiece}
 use Rattle.c_lexer.specs.Scan.{Scan, ends, goes_on, width, GoesOn, fresh_behind, last_reading, reading_from, Reads}
 use Rattle.c_lexer.specs.Outcome.{answer_for, Gives, IsAnswer}
 

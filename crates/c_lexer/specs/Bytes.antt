@@ -1,5 +1,5 @@
 -- Classes of bytes (C99 5.2.1), and what begins at the front of a text.
-use Rattle.std.specs.Prelude.{ℕ, Bool, true, false, ◌&&◌, ◌||◌, not, ◌==◌, nat_le, List, [], ◌∷◌, Option, Some, None, if◌then◌else◌, nat_eq, codes, length, drop}
+use Rattle.std.specs.Prelude.{ℕ, Bool, true, false, ◌&&◌, ◌||◌, ◌==◌, nat_le, List, [], ◌∷◌, if◌then◌else◌, nat_eq, codes, length, drop}
 use Rattle.std.specs.List.{starts_with, prefix_len}
 use Rattle.c_lexer.specs.declared.piece.Class.{Class}
 use Rattle.c_lexer.specs.declared.piece.Class.TheVariants as class
@@ -31,9 +31,15 @@ begins xs word = starts_with nat_eq xs word
 abbrev pub line_end_next : List ℕ → Bool
 line_end_next xs = begins xs (10 ∷ []) || begins xs (13 ∷ 10 ∷ [])
 
--- the same, where the end of the input counts as a newline
+-- the end of the text, or byte 13 and the end
+abbrev pub text_end_next : List ℕ → Bool
+text_end_next [] = true
+text_end_next (b ∷ []) = b == 13
+text_end_next (b ∷ c ∷ rest) = false
+
+-- the end of the text counts as a newline too
 abbrev pub line_or_text_end_next : List ℕ → Bool
-line_or_text_end_next xs = line_end_next xs || length xs == 0 || (length xs == 1 && begins xs (13 ∷ []))
+line_or_text_end_next xs = line_end_next xs || text_end_next xs
 
 -- a line continuation (C99 5.1.1.2): outside a `/* */` comment, and in one
 abbrev pub continues : List ℕ → Bool

@@ -1,11 +1,11 @@
 -- How far a text is read, and what a piece changes of it.
-use Rattle.std.specs.Prelude.{ℕ, ◌+◌, Bool, true, false, List, [], ◌∷◌, ◌++◌, Option, Some, None}
+use Rattle.std.specs.Prelude.{ℕ, ◌+◌, false, List, [], ◌∷◌, ◌++◌, Option, Some}
 use Rattle.c_lexer.specs.declared.front.Front.{Front}
 use Rattle.c_lexer.specs.declared.piece.Fault.{Fault}
 use Rattle.c_lexer.specs.declared.piece.Piece.{Piece}
 use Rattle.c_lexer.specs.declared.piece.Piece.TheVariants as piece
 use Rattle.c_lexer.specs.declared.reading.Reading.{Reading}
-use Rattle.c_lexer.specs.Scan.{width, fresh_behind, later}
+use Rattle.c_lexer.specs.Scan.{fresh_behind}
 
 -- the reading that ends here
 abbrev pub reading_at : Front → Option (Fault × ℕ) → Reading

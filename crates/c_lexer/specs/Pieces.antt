@@ -1,13 +1,10 @@
 -- The pieces that a text is cut into (C99 6.4 and 6.4.9), each with the condition on it.
-use Rattle.std.specs.Prelude.{◌≡◌, ℕ, ◌+◌, ◌-◌, ◌*◌, ◌<◌, ◌≤◌, Bool, true, false, ◌&&◌, ◌||◌, not, ◌==◌, nat_lt, List, [], ◌∷◌, Option, Some, None, if◌then◌else◌, nat_eq, codes, length, take, drop, fold, ℤ, pos}
+use Rattle.std.specs.Prelude.{◌≡◌, ℕ, ◌+◌, ◌-◌, ◌*◌, ◌<◌, ◌≤◌, Bool, false, ◌&&◌, ◌||◌, not, ◌==◌, nat_lt, List, [], ◌∷◌, Option, Some, None, if◌then◌else◌, codes, length, take, drop, fold, ℤ, pos}
 use Rattle.std.specs.List.{prefix_len, list_all}
-use Rattle.c_lexer.specs.declared.token.Kind.{Kind}
 use Rattle.c_lexer.specs.declared.token.Kind.TheVariants as kind
-use Rattle.c_lexer.specs.declared.piece.Fault.{Fault}
 use Rattle.c_lexer.specs.declared.piece.Fault.TheVariants.{BadByte, OpenComment, OpenText, BadEscape, WideNumber}
 use Rattle.c_lexer.specs.declared.piece.Class.{Class}
 use Rattle.c_lexer.specs.declared.piece.Class.TheVariants as class
-use Rattle.c_lexer.specs.declared.piece.Stop.{Stop}
 use Rattle.c_lexer.specs.declared.piece.Stop.TheVariants as stop
 use Rattle.c_lexer.specs.declared.piece.Piece.{Piece}
 use Rattle.c_lexer.specs.declared.piece.Piece.TheVariants as piece

@@ -1,6 +1,6 @@
 ghost use Rattle.std.specs.Prelude.{◌≡◌, ◌<◌, ◌≤◌, length, drop};
 ghost use Rattle.std.specs.List.{prefix_len};
-ghost use Rattle.c_lexer.specs.Bytes.{is_blank, is_digit, is_word_byte, is_number_byte, is_space, line_end_next, line_or_text_end_next, continues, continues_in_comment, star_continues, stops, begins_include, class_of};
+ghost use Rattle.c_lexer.specs.Bytes.{is_blank, is_digit, is_word_byte, is_number_byte, is_space, line_end_next, line_or_text_end_next, text_end_next, continues, continues_in_comment, star_continues, stops, begins_include, class_of};
 ghost use Rattle.c_lexer.specs.Opening.{Opens};
 
 use crate::{Class, Stop};
@@ -41,10 +41,20 @@ fn line_end_next(rest: &[u8]) -> bool
     rest.starts_with(b"\n") || rest.starts_with(b"\r\n")
 }
 
+fn text_end_next(rest: &[u8]) -> bool
+    ensures { result ≡ text_end_next rest.now }
+{
+    match rest {
+        [] => true,
+        [last] => *last == b'\r',
+        _ => false,
+    }
+}
+
 fn line_or_text_end_next(rest: &[u8]) -> bool
     ensures { result ≡ line_or_text_end_next rest.now }
 {
-    line_end_next(rest) || rest.is_empty() || rest.len() == 1 && rest.starts_with(b"\r")
+    line_end_next(rest) || text_end_next(rest)
 }
 
 /// Whether a line continuation stands next, outside a `/* */` comment.

@@ -13,6 +13,8 @@ mod quotes;
 mod reading;
 mod refusal;
 mod spans;
+#[cfg(test)]
+mod tests;
 mod token;
 mod words;
 

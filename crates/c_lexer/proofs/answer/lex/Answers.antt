@@ -1,4 +1,3 @@
-use Rattle.std.proofs.Common.{length, subst, sym}
 use Rattle.c_lexer.proofs.Unique.{gives_for, is_answer_for}
 use Rattle.c_lexer.proofs.answer.lex.Goals as goal
 
