@@ -4,4 +4,5 @@ pub mod Quoted
 pub mod Longest
 pub mod Scanned
 pub mod Unique
+pub mod Local
 mod Examples
