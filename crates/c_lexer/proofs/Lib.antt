@@ -5,4 +5,5 @@ pub mod Longest
 pub mod Scanned
 pub mod Unique
 pub mod Local
+pub mod LocalSpans
 mod Examples

@@ -38,7 +38,7 @@ low_no_number b low = grind (arith, nat_tests)
 -- ---- runs
 
 -- a front of both texts
-front_same : (w s t : List ℕ) (n : ℕ) → n ≤ length w → take n (w ++ s) ≡ take n (w ++ t)
+pub front_same : (w s t : List ℕ) (n : ℕ) → n ≤ length w → take n (w ++ s) ≡ take n (w ++ t)
 front_same w s t n within = take-append-le n w s within ∙ sym (take-append-le n w t within)
 
 -- a run that stops within the front, or at its end before a byte that isn't of the run
