@@ -6,4 +6,5 @@ pub mod Scanned
 pub mod Unique
 pub mod Local
 pub mod LocalSpans
+pub mod LocalPiece
 mod Examples

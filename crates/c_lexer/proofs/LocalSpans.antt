@@ -22,7 +22,7 @@ further_some (Some m) n e = (m, refl, cc)
 some_zero : (n : ℕ) → Some 0 ≡ Some n → n ≡ 0
 some_zero n e = cc
 
-place_parts : (test : List ℕ → Bool) (b n : ℕ) (rest : List ℕ) → first_place test (b ∷ rest) ≡ Some n
+pub place_parts : (test : List ℕ → Bool) (b n : ℕ) (rest : List ℕ) → first_place test (b ∷ rest) ≡ Some n
     → ((test (b ∷ rest) ≡ true) × (n ≡ 0)) ⊎ ((test (b ∷ rest) ≡ false) × ((m : ℕ) × (first_place test rest ≡ Some m) × (n ≡ m + 1)))
 place_parts test b n rest place =
     ⊎_elim
@@ -59,7 +59,7 @@ place_within test (b ∷ rest) n place =
 
 -- ---- a place at which a word stops the text
 
-begins_same : (w s t u : List ℕ) → length u ≤ length w → begins (w ++ s) u ≡ begins (w ++ t) u
+pub begins_same : (w s t u : List ℕ) → length u ≤ length w → begins (w ++ s) u ≡ begins (w ++ t) u
 begins_same w s t u within = ap (pointwise nat_eq u) (front_same w s t (length u) within)
 
 -- the text stops here, by this word
