@@ -244,8 +244,12 @@ pub record BlockEnds (body : List ℕ) (m : ℕ) (p : Piece) : Type 0 where
   pub at : StopsAt (stops stop.BlockComment) (codes "*/") body m
   pub is : p ≡ piece.Comment (m + 4)
 
-pub block_parts : (x y : ℕ) (body : List ℕ) (p : Piece) → GoesOn p → p ≡ block_comment (x ∷ y ∷ body) → (m : ℕ) × BlockEnds body m p
-block_parts x y body p goes is =
+-- the piece, from what stands behind its opening
+abbrev pub block_of : List ℕ → Piece
+block_of body = cond (continues_in_comment body) (piece.Bad BadByte 2) (block_end body (first_place (stops stop.BlockComment) body))
+
+pub block_parts : (body : List ℕ) (p : Piece) → GoesOn p → p ≡ block_of body → (m : ℕ) × BlockEnds body m p
+block_parts body p goes is =
     ⊎_elim
     (λ continued. absurd (subst GoesOn (is ∙ cond-true (continues_in_comment body) (piece.Bad BadByte 2) rest continued) goes))
     (λ clear. ended clear (first_place (stops stop.BlockComment) body) refl (is ∙ cond-false (continues_in_comment body) (piece.Bad BadByte 2) rest clear))
@@ -275,7 +279,7 @@ block_clear_same (c ∷ d ∷ []) s t m word within =
 
 pub block_local : (x y : ℕ) (w s t : List ℕ) (p : Piece) → GoesOn p → width p ≤ length (x ∷ y ∷ w) → p ≡ block_comment (x ∷ y ∷ w ++ s) → p ≡ block_comment (x ∷ y ∷ w ++ t)
 block_local x y w s t p goes within is =
-    let parts = block_parts x y (w ++ s) p goes is in
+    let parts = block_parts (w ++ s) p goes is in
     let m = parts.0 in
     let inside : m + 2 ≤ length w = omega (arith, ap width parts.1.is) in
     let at = stops_same (stops stop.BlockComment) (codes "*/") end_stops_block block_looks (omega arith) w s t m parts.1.at inside in
