@@ -7,4 +7,5 @@ pub mod Unique
 pub mod Local
 pub mod LocalSpans
 pub mod LocalPiece
+pub mod Passes
 mod Examples

@@ -111,7 +111,7 @@ spells_local quote (x ∷ y ∷ z ∷ w) s t _ _ (escape {b = b} {n = n} next re
     escape (next_alike quote x (y ∷ z ∷ (w ++ s)) (y ∷ z ∷ (w ++ t)) (Escape b) next (λ e. escape_same quote y z (w ++ t) (w ++ s) ∙ e)) (spells_local quote (z ∷ w) s t _ n rest (omega arith))
 
 -- a piece between quotes that others follow is closed
-abbrev Closed : (List ℕ → ℕ → Next → Piece) → Type 0
+abbrev pub Closed : (List ℕ → ℕ → Next → Piece) → Type 0
 Closed make = (values : List ℕ) (n : ℕ) (end : Next) → GoesOn (make values n end) → (end ≡ Close) × (width (make values n end) ≡ n + 2)
 
 pub text_closed : Closed text_piece

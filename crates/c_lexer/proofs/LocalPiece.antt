@@ -54,7 +54,7 @@ hash_refused r (piece.Include n) is goes accepted = is
 
 -- ---- the class
 
-abbrev class_by : Bool → Bool → Bool → ℕ → Class
+abbrev pub class_by : Bool → Bool → Bool → ℕ → Class
 class_by slashes star include x =
     cond (is_blank x) class.Blank
     (cond slashes class.LineComment
@@ -69,7 +69,7 @@ class_by slashes star include x =
 class_is : (fresh : Bool) (x : ℕ) (r : List ℕ) → class_of fresh (x ∷ r) ≡ class_by (begins (x ∷ r) (codes "//")) (begins (x ∷ r) (codes "/*")) (fresh && begins_include (x ∷ r)) x
 class_is fresh x r = refl
 
-line_wide : (body : List ℕ) (p : Piece) → GoesOn p → p ≡ line_end piece.Comment 2 body (first_place (stops stop.LineComment) body) → 2 ≤ width p
+pub line_wide : (body : List ℕ) (p : Piece) → GoesOn p → p ≡ line_end piece.Comment 2 body (first_place (stops stop.LineComment) body) → 2 ≤ width p
 line_wide body p goes is =
     ⊎_elim
     (λ unended. omega (arith, ap width (is ∙ unended)))
@@ -279,7 +279,7 @@ decimal_width : (o : Option ℤ) (n : ℕ) → GoesOn (decimal_piece o n) → wi
 decimal_width None n goes = absurd goes
 decimal_width (Some value) n goes = refl
 
-number_width : (run : List ℕ) (n : ℕ) → GoesOn (number_by run n) → width (number_by run n) ≡ n
+pub number_width : (run : List ℕ) (n : ℕ) → GoesOn (number_by run n) → width (number_by run n) ≡ n
 number_width run n goes =
     let yes' = decimal_piece (int_of (decimal_value run)) n in
     let other : Piece = piece.Lexeme (kind.Refused number_form) n in
