@@ -8,4 +8,5 @@ pub mod Local
 pub mod LocalSpans
 pub mod LocalPiece
 pub mod Passes
+pub mod LocalPasses
 mod Examples
