@@ -9,4 +9,6 @@ pub mod LocalSpans
 pub mod LocalPiece
 pub mod Passes
 pub mod LocalPasses
+pub mod UpTo
+pub mod Answered
 mod Examples
