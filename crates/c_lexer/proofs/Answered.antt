@@ -1,5 +1,5 @@
 -- What an answer says of the text.
-use Rattle.std.proofs.Common.{◌≡◌, ℕ, List, Option, Some, None, Result, Ok, Err, false, length, sym, refl, ap, ◌∙◌, subst}
+use Rattle.std.proofs.Common.{◌≡◌, ℕ, List, Option, Some, None, Result, Ok, Err, IfOk, false, length, sym, refl, ap, ◌∙◌, subst}
 use Rattle.c_lexer.specs.declared.token.Token.{Token}
 use Rattle.c_lexer.specs.declared.token.Tokens.{Tokens}
 use Rattle.c_lexer.specs.declared.piece.Fault.{Fault}
@@ -8,14 +8,7 @@ use Rattle.c_lexer.specs.declared.refusal.LexRefusal.{LexRefusal}
 use Rattle.c_lexer.specs.declared.refusal.LexRefusal.TheVariants as refusal
 use Rattle.c_lexer.specs.Scan.{Reads}
 use Rattle.c_lexer.specs.Nest.{at_first, first_deep}
-use Rattle.c_lexer.specs.Outcome.{refusal_of, first_refused, unless_deep, unless_refused, unless_fault, answer_for, Answers, IsAnswer}
-
--- the tokens of a text that is read without a fault, none of them refused and none too deep
-pub record AreTokens (bytes : List ℕ) (tokens : Tokens) : Type 0 where
-  pub reads : Reads bytes (record { tokens = tokens.list; last_comment = tokens.last_comment; fault = None })
-  pub size : tokens.size ≡ length bytes
-  pub none_refused : first_refused tokens.list ≡ None
-  pub none_deep : first_deep false at_first tokens.list ≡ None
+use Rattle.c_lexer.specs.Outcome.{refusal_of, first_refused, unless_deep, unless_refused, unless_fault, answer_for, AreTokens, Answers, IsAnswer}
 
 reading_is : (r : Reading) (tokens : List Token) (c : Option (ℕ × ℕ)) → r.tokens ≡ tokens → r.last_comment ≡ c → r.fault ≡ None → let x : Reading = record { tokens = tokens; last_comment = c; fault = None } in r ≡ x
 reading_is r tokens c p q f = λ i. record { tokens = p i; last_comment = q i; fault = f i }
@@ -44,3 +37,7 @@ tokens_answered bytes tokens answer = by_fault answer.reading.fault refl answer.
     by_fault : (found : Option (Fault × ℕ)) → answer.reading.fault ≡ found → unless_fault (length bytes) answer.reading found ≡ Ok tokens → AreTokens bytes tokens
     by_fault (Some found) same is = cc
     by_fault None same is = by_refused (first_refused answer.reading.tokens) refl same is
+
+pub ok_answered : (bytes : List ℕ) (answer : Result Tokens LexRefusal) → IsAnswer bytes answer → IfOk answer (AreTokens bytes)
+ok_answered bytes (Ok tokens) answered = tokens_answered bytes tokens answered
+ok_answered bytes (Err refusal) answered = tt

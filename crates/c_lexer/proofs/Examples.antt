@@ -1,5 +1,5 @@
 -- The definitions, computed.
-use Rattle.std.proofs.Common.{◌≡◌, ℕ, ◌<◌, ◌≤◌, List, [], ◌∷◌, ◌++◌, Some, None, true, false, pos, refl, arith}
+use Rattle.std.proofs.Common.{◌≡◌, ℕ, ◌<◌, ◌≤◌, List, [], ◌∷◌, ◌++◌, Some, None, true, false, pos, take, subst, refl, arith}
 use Rattle.std.specs.Prelude.{codes}
 use Rattle.c_lexer.specs.declared.token.Kind.TheVariants as kind
 use Rattle.c_lexer.specs.declared.token.Token.{Token}
@@ -8,7 +8,7 @@ use Rattle.c_lexer.specs.declared.piece.Fault.TheVariants.{BadByte, OpenComment,
 use Rattle.c_lexer.specs.declared.piece.Piece.TheVariants as piece
 use Rattle.c_lexer.specs.declared.piece.Quote.TheVariants.{Double, Single}
 use Rattle.c_lexer.specs.declared.piece.Next.TheVariants.{Close, NoEscape}
-use Rattle.c_lexer.specs.Words.{key_word, punctuator, refused_word, refused_punctuator, kind_of_word}
+use Rattle.c_lexer.specs.Words.{key_word, punctuator, refused_word, refused_punctuator, kind_of_word, punctuator_kind}
 use Rattle.c_lexer.specs.Bytes.{class_of}
 use Rattle.c_lexer.specs.Pieces.{word_piece, number_piece, line_comment, include_line, block_comment, Spells, none, plain, escape, IsPunctuator}
 use Rattle.c_lexer.specs.Scan.{Reads, ends, goes_on}
@@ -74,8 +74,15 @@ continued_star = refl
 to_the_comment : include_line (codes "#include <a> // b") ≡ piece.Include 13
 to_the_comment = refl
 
+no_longer : punctuator_kind (codes "==x") ≡ None
+no_longer = refl
+
 two_equals : IsPunctuator (codes "==x") (piece.Lexeme (kind.Punct 21) 2)
-two_equals = (omega arith, refl, λ m above within. let last : m ≡ 3 = omega arith in rw last refl)
+two_equals = (
+  omega arith,
+  refl,
+  λ m above inside. let last : 3 ≡ m = omega arith in let P : ℕ → Type 0 = λ k. punctuator_kind (take k (codes "==x")) ≡ None in subst P last no_longer,
+)
 
 a_string : Spells Double (codes "a\"") (97 ∷ []) 1 Close
 a_string = plain refl (none refl tt)

@@ -1,6 +1,6 @@
 -- A piece at the front of a text doesn't depend on what follows it, where a blank does.
 use Rattle.std.proofs.Common.{◌≡◌, ℕ, zero, suc, ◌+◌, ◌-◌, ◌<◌, ◌≤◌, Bool, true, false, ◌&&◌, ◌||◌, cond, List, [], ◌∷◌, ◌++◌, Option, Some, None, length, take, drop, nat_eq, not, sym, refl, ap, ◌∙◌, subst, ⊎_elim, arith, length-append}
-use Rattle.std.specs.Prelude.{codes, ◌==◌}
+use Rattle.std.specs.Prelude.{codes, ◌==◌, nat_le}
 use Rattle.std.specs.List.{prefix_len, list_all}
 use Rattle.std.specs.Cmp.Lexicographic.{pointwise}
 use Rattle.std.proofs.lemmas.Bool.{and_parts, or_parts, or_cases, or_left, or_right, cond-true, cond-false, cases_Bool, cases_lt, eqb-true, leb-true, false≢true, true≢false}
@@ -15,7 +15,7 @@ use Rattle.c_lexer.specs.declared.piece.Next.{Next}
 use Rattle.c_lexer.specs.declared.piece.Next.TheVariants.{Plain, Escape, Close, LineEnd, NoByte, NoEscape}
 use Rattle.c_lexer.specs.declared.token.Kind.{Kind}
 use Rattle.c_lexer.specs.declared.token.Kind.TheVariants as kind
-use Rattle.c_lexer.specs.Bytes.{is_blank, is_word_byte, is_number_byte}
+use Rattle.c_lexer.specs.Bytes.{within, is_blank, is_word_byte, is_number_byte}
 use Rattle.c_lexer.specs.Words.{punctuator_kind, place_of, punctuator, refused_punctuator, punctuators, refused_punctuators, or_else, as_kind, kind_of_word}
 use Rattle.c_lexer.specs.Pieces.{Spells, none, plain, escape, next_of, escape_next, quote_byte, allowed, escaped, or_zero, is_zero_escape, word_piece, number_piece, number_by, IsQuoted, text_piece, character_piece, unclosed, IsPunctuator}
 use Rattle.c_lexer.specs.Scan.{width, GoesOn}
@@ -25,9 +25,9 @@ use Rattle.c_lexer.specs.Scan.{width, GoesOn}
 pub blank_low : (b : ℕ) → is_blank b ≡ true → b ≤ 32
 blank_low b blank =
     ⊎_elim
-    (λ line. let parts = and_parts _ _ line in omega (arith, leb-true b 13 parts.1))
-    (λ space. omega (arith, eqb-true b 32 space))
-    (or_cases _ _ blank)
+    (λ (line : within 9 13 b ≡ true). let parts = and_parts (nat_le 9 b) (nat_le b 13) line in omega (arith, leb-true b 13 parts.1))
+    (λ (space : (b == 32) ≡ true). omega (arith, eqb-true b 32 space))
+    (or_cases (within 9 13 b) (b == 32) blank)
 
 low_no_word : (b : ℕ) → b ≤ 32 → is_word_byte b ≡ false
 low_no_word b low = grind (arith, nat_tests)
@@ -47,8 +47,8 @@ run_same test [] s t b fails within = let stops : 0 ≡ prefix_len test s = omeg
 run_same test (x ∷ w) s t b fails within =
     ⊎_elim
     (λ passes.
-      let shorter : prefix_len test (w ++ s) ≤ length w = omega (arith, cond-true (test x) (1 + prefix_len test (w ++ s)) 0 passes) in
-      cond-true (test x) (1 + prefix_len test (w ++ b ∷ t)) 0 passes ∙ ap (λ n. 1 + n) (run_same test w s t b fails shorter) ∙ sym (cond-true (test x) (1 + prefix_len test (w ++ s)) 0 passes))
+    let shorter : prefix_len test (w ++ s) ≤ length w = omega (arith, cond-true (test x) (1 + prefix_len test (w ++ s)) 0 passes) in
+    cond-true (test x) (1 + prefix_len test (w ++ b ∷ t)) 0 passes ∙ ap (λ n. 1 + n) (run_same test w s t b fails shorter) ∙ sym (cond-true (test x) (1 + prefix_len test (w ++ s)) 0 passes))
     (λ stops. cond-false (test x) (1 + prefix_len test (w ++ b ∷ t)) 0 stops ∙ sym (cond-false (test x) (1 + prefix_len test (w ++ s)) 0 stops))
     (cases_Bool (test x))
 
@@ -182,14 +182,14 @@ reaches_blank (x ∷ w) t b (suc m) blank past = or_right (is_blank x) (has_blan
 
 pub punctuator_local : (w s t : List ℕ) (b : ℕ) (p : Piece) → is_blank b ≡ true → GoesOn p → width p ≤ length w → IsPunctuator (w ++ s) p → IsPunctuator (w ++ b ∷ t) p
 punctuator_local w s t b (piece.Lexeme kind n) blank goes within is = (
-    omega (arith, length-append w (b ∷ t)),
-    ap punctuator_kind (front_same w (b ∷ t) s n within) ∙ is.1,
-    λ m above inside.
+  omega (arith, length-append w (b ∷ t)),
+  ap punctuator_kind (front_same w (b ∷ t) s n within) ∙ is.1,
+  λ m above inside.
       ⊎_elim
       (λ past. blank_is_none (take m (w ++ b ∷ t)) (reaches_blank w t b m blank past))
       (λ upto. ap punctuator_kind (front_same w (b ∷ t) s m upto) ∙ is.2 m above (omega (arith, length-append w s)))
       (cases_lt (length w) m),
-  )
+)
 punctuator_local w s t b (piece.Bad fault at) blank goes within is = absurd goes
 punctuator_local w s t b piece.End blank goes within is = absurd is
 punctuator_local w s t b piece.Blank blank goes within is = absurd is

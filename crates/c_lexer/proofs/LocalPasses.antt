@@ -164,50 +164,50 @@ room_of class.LineComment fresh fresh' at k x (y ∷ w) s p r follows goes len i
     ⊎_elim
     (λ unended. absurd (omega (arith, ap width (is ∙ unended), length-append w s, follows.some)))
     (λ ended.
-      let m = ended.0 in
-      let newline = line_stopped (drop m (w ++ s)) (place_passes (stops stop.LineComment) (w ++ s) m ended.1.place) ended.1.clear in
-      ⊎_elim
-      (λ inside. omega (arith, ap width (is ∙ ended.2)))
-      (λ past'.
-        let whole : m ≡ length w = omega (arith, ap width (is ∙ ended.2)) in
-        absurd (false≢true (sym follows.no_newline ∙ subst (λ ys. begins ys (10 ∷ []) ≡ true) (drop_whole w s m whole) newline)))
-      (cases_lt m (length w)))
+    let m = ended.0 in
+    let newline = line_stopped (drop m (w ++ s)) (place_passes (stops stop.LineComment) (w ++ s) m ended.1.place) ended.1.clear in
+    ⊎_elim
+    (λ inside. omega (arith, ap width (is ∙ ended.2)))
+    (λ past'.
+    let whole : m ≡ length w = omega (arith, ap width (is ∙ ended.2)) in
+    absurd (false≢true (sym follows.no_newline ∙ subst (λ ys. begins ys (10 ∷ []) ≡ true) (drop_whole w s m whole) newline)))
+    (cases_lt m (length w)))
     (line_end_parts piece.Comment 2 (w ++ s) (first_place (stops stop.LineComment) (w ++ s)) (subst GoesOn is goes))
 room_of class.IncludeLine fresh fresh' at k x w s p r follows goes len is rest =
     ⊎_elim
     (λ unended. absurd (omega (arith, ap width (is ∙ unended), length-append w s, follows.some)))
     (λ ended.
-      let m = ended.0 in
-      let n_is : width p ≡ suc m = ap width (is ∙ ended.2) ∙ omega arith in
-      let next : drop (width p) (x ∷ w ++ s) ≡ drop m (w ++ s) = ap (λ n. drop n (x ∷ w ++ s)) n_is in
-      let stopped = include_stopped (drop m (w ++ s)) (place_passes (stops stop.IncludeLine) (w ++ s) m ended.1.place) ended.1.clear in
+    let m = ended.0 in
+    let n_is : width p ≡ suc m = ap width (is ∙ ended.2) ∙ omega arith in
+    let next : drop (width p) (x ∷ w ++ s) ≡ drop m (w ++ s) = ap (λ n. drop n (x ∷ w ++ s)) n_is in
+    let stopped = include_stopped (drop m (w ++ s)) (place_passes (stops stop.IncludeLine) (w ++ s) m ended.1.place) ended.1.clear in
+    ⊎_elim
+    (λ inside. (
+      omega (arith, n_is),
       ⊎_elim
-      (λ inside. (
-        omega (arith, n_is),
-        ⊎_elim
-        (λ newline. inl (subst (λ ys. begins ys (10 ∷ []) ≡ true) (sym next) newline))
-        (λ comment. inr (
+          (λ newline. inl (subst (λ ys. begins ys (10 ∷ []) ≡ true) (sym next) newline))
+          (λ comment. inr (
           ⊎_elim
           (λ one.
-            let narrow : k ≡ 1 = omega (arith, n_is) in
-            let P : List ℕ → Type 0 = λ ys. (begins ys (codes "//") ≡ true) ⊎ (begins ys (codes "/*") ≡ true) in
-            absurd (one_left fresh fresh' at k (drop (width p) (x ∷ w ++ s)) r rest narrow (subst P (sym next) comment)))
+          let narrow : k ≡ 1 = omega (arith, n_is) in
+          let P : List ℕ → Type 0 = λ ys. (begins ys (codes "//") ≡ true) ⊎ (begins ys (codes "/*") ≡ true) in
+          absurd (one_left fresh fresh' at k (drop (width p) (x ∷ w ++ s)) r rest narrow (subst P (sym next) comment)))
           (λ two. omega (arith, n_is))
           (cases_lt (length w) (m + 2))))
-        stopped,
-      ))
-      (λ past'.
-        let whole : m ≡ length w = omega (arith, n_is) in
-        let at_s = drop_whole w s m whole in
-        ⊎_elim
-        (λ newline. absurd (false≢true (sym follows.no_newline ∙ subst (λ ys. begins ys (10 ∷ []) ≡ true) at_s newline)))
-        (λ comment.
-          ⊎_elim
-          (λ slashes. absurd (false≢true (sym follows.no_slashes ∙ subst (λ ys. begins ys (codes "//") ≡ true) at_s slashes)))
-          (λ star. absurd (false≢true (sym follows.no_star ∙ subst (λ ys. begins ys (codes "/*") ≡ true) at_s star)))
-          comment)
-        stopped)
-      (cases_lt m (length w)))
+          stopped,
+    ))
+    (λ past'.
+    let whole : m ≡ length w = omega (arith, n_is) in
+    let at_s = drop_whole w s m whole in
+    ⊎_elim
+    (λ newline. absurd (false≢true (sym follows.no_newline ∙ subst (λ ys. begins ys (10 ∷ []) ≡ true) at_s newline)))
+    (λ comment.
+    ⊎_elim
+    (λ slashes. absurd (false≢true (sym follows.no_slashes ∙ subst (λ ys. begins ys (codes "//") ≡ true) at_s slashes)))
+    (λ star. absurd (false≢true (sym follows.no_star ∙ subst (λ ys. begins ys (codes "/*") ≡ true) at_s star)))
+    comment)
+    stopped)
+    (cases_lt m (length w)))
     (line_end_parts piece.Include 1 (w ++ s) (first_place (stops stop.IncludeLine) (w ++ s)) (subst GoesOn is goes))
 
 fresh_same : (fresh : Bool) (x : ℕ) (r r' : List ℕ) (p : Piece) → fresh_behind fresh (x ∷ r) p ≡ fresh_behind fresh (x ∷ r') p

@@ -174,17 +174,17 @@ include_inside [] m word place = cc
 include_inside (x ∷ xs) m word place =
     ⊎_elim
     (λ space.
-      let k = prefix_len is_space xs in
-      let len : prefix_len is_space (x ∷ xs) ≡ k + 1 = cond-true (is_space x) (1 + k) 0 space ∙ omega arith in
-      let after = calm_first x m xs (space_calm x space) place in
-      let word' : begins (drop k xs) (codes "include") ≡ true = subst (λ ys. begins ys (codes "include") ≡ true) (ap (λ n. drop n (x ∷ xs)) (len ∙ add-one k)) word in
-      omega (arith, include_inside xs after.0 word' after.1, after.2, len))
+    let k = prefix_len is_space xs in
+    let len : prefix_len is_space (x ∷ xs) ≡ k + 1 = cond-true (is_space x) (1 + k) 0 space ∙ omega arith in
+    let after = calm_first x m xs (space_calm x space) place in
+    let word' : begins (drop k xs) (codes "include") ≡ true = subst (λ ys. begins ys (codes "include") ≡ true) (ap (λ n. drop n (x ∷ xs)) (len ∙ add-one k)) word in
+    omega (arith, include_inside xs after.0 word' after.1, after.2, len))
     (λ other.
-      let len : prefix_len is_space (x ∷ xs) ≡ 0 = cond-false (is_space x) (1 + prefix_len is_space xs) 0 other in
-      let word' : begins (x ∷ xs) (codes "include") ≡ true = subst (λ n. begins (drop n (x ∷ xs)) (codes "include") ≡ true) len word in
-      let split = begins_split (codes "include") (x ∷ xs) word' in
-      let inside = calm_front (codes "include") (drop (length (codes "include")) (x ∷ xs)) m include_calm (subst (λ ys. first_place (stops stop.IncludeLine) ys ≡ Some m) split place) in
-      omega (arith, inside, len))
+    let len : prefix_len is_space (x ∷ xs) ≡ 0 = cond-false (is_space x) (1 + prefix_len is_space xs) 0 other in
+    let word' : begins (x ∷ xs) (codes "include") ≡ true = subst (λ n. begins (drop n (x ∷ xs)) (codes "include") ≡ true) len word in
+    let split = begins_split (codes "include") (x ∷ xs) word' in
+    let inside = calm_front (codes "include") (drop (length (codes "include")) (x ∷ xs)) m include_calm (subst (λ ys. first_place (stops stop.IncludeLine) ys ≡ Some m) split place) in
+    omega (arith, inside, len))
     (cases_Bool (is_space x))
 
 -- ---- the class, where only the front is the same
@@ -194,8 +194,8 @@ run_inside test [] s t inside = absurd (omega arith)
 run_inside test (x ∷ w) s t inside =
     ⊎_elim
     (λ passes.
-      let shorter : prefix_len test (w ++ s) < length w = omega (arith, cond-true (test x) (1 + prefix_len test (w ++ s)) 0 passes) in
-      cond-true (test x) (1 + prefix_len test (w ++ t)) 0 passes ∙ ap (λ n. 1 + n) (run_inside test w s t shorter) ∙ sym (cond-true (test x) (1 + prefix_len test (w ++ s)) 0 passes))
+    let shorter : prefix_len test (w ++ s) < length w = omega (arith, cond-true (test x) (1 + prefix_len test (w ++ s)) 0 passes) in
+    cond-true (test x) (1 + prefix_len test (w ++ t)) 0 passes ∙ ap (λ n. 1 + n) (run_inside test w s t shorter) ∙ sym (cond-true (test x) (1 + prefix_len test (w ++ s)) 0 passes))
     (λ other. cond-false (test x) (1 + prefix_len test (w ++ t)) 0 other ∙ sym (cond-false (test x) (1 + prefix_len test (w ++ s)) 0 other))
     (cases_Bool (test x))
 
@@ -235,19 +235,19 @@ hash_include : (w s t : List ℕ) (p : Piece) → GoesOn p → NotRefused p → 
 hash_include w s t p goes accepted within room is =
     ⊎_elim
     (λ include.
-      let line : class_of true (35 ∷ w ++ s) ≡ class.IncludeLine = cond-true (begins_include (35 ∷ w ++ s)) class.IncludeLine class.Other include in
-      let P : Class → Type 0 = λ c. IsPiece c (35 ∷ w ++ s) p in
-      let is_line : p ≡ include_line (35 ∷ w ++ s) = subst P line is in
-      let Q : Class → Type 0 = λ c. Room c (35 ∷ w) s p in
-      let behind = subst Q line room in
-      ⊎_elim
-      (λ unended. absurd (omega (arith, behind.0, ap width (is_line ∙ unended), length-append w s)))
-      (λ ended. include ∙ sym (include_same w s t ended.0 include ended.1.place (omega (arith, ap width (is_line ∙ ended.2)))))
-      (line_end_parts piece.Include 1 (w ++ s) (first_place (stops stop.IncludeLine) (w ++ s)) (subst GoesOn is_line goes)))
+    let line : class_of true (35 ∷ w ++ s) ≡ class.IncludeLine = cond-true (begins_include (35 ∷ w ++ s)) class.IncludeLine class.Other include in
+    let P : Class → Type 0 = λ c. IsPiece c (35 ∷ w ++ s) p in
+    let is_line : p ≡ include_line (35 ∷ w ++ s) = subst P line is in
+    let Q : Class → Type 0 = λ c. Room c (35 ∷ w) s p in
+    let behind = subst Q line room in
+    ⊎_elim
+    (λ unended. absurd (omega (arith, behind.0, ap width (is_line ∙ unended), length-append w s)))
+    (λ ended. include ∙ sym (include_same w s t ended.0 include ended.1.place (omega (arith, ap width (is_line ∙ ended.2)))))
+    (line_end_parts piece.Include 1 (w ++ s) (first_place (stops stop.IncludeLine) (w ++ s)) (subst GoesOn is_line goes)))
     (λ other.
-      let apart : class_of true (35 ∷ w ++ s) ≡ class.Other = cond-false (begins_include (35 ∷ w ++ s)) class.IncludeLine class.Other other in
-      let P : Class → Type 0 = λ c. IsPiece c (35 ∷ w ++ s) p in
-      absurd (hash_refused (w ++ s) p (subst P apart is) goes accepted))
+    let apart : class_of true (35 ∷ w ++ s) ≡ class.Other = cond-false (begins_include (35 ∷ w ++ s)) class.IncludeLine class.Other other in
+    let P : Class → Type 0 = λ c. IsPiece c (35 ∷ w ++ s) p in
+    absurd (hash_refused (w ++ s) p (subst P apart is) goes accepted))
     (cases_Bool (begins_include (35 ∷ w ++ s)))
 
 fresh_include : (fresh : Bool) (x : ℕ) (w s t : List ℕ) (p : Piece) → GoesOn p → NotRefused p → width p ≤ length (x ∷ w) → Room (class_of fresh (x ∷ w ++ s)) (x ∷ w) s p → IsPiece (class_of fresh (x ∷ w ++ s)) (x ∷ w ++ s) p
@@ -256,12 +256,12 @@ fresh_include false x w s t p goes accepted within room is = refl
 fresh_include true x w s t p goes accepted within room is =
     ⊎_elim
     (λ hash.
-      let same : x ≡ 35 = sym (eqb-true 35 x hash) in
-      let P : ℕ → Type 0 = λ y. Room (class_of true (y ∷ w ++ s)) (y ∷ w) s p → IsPiece (class_of true (y ∷ w ++ s)) (y ∷ w ++ s) p → begins_include (y ∷ w ++ s) ≡ begins_include (y ∷ w ++ t) in
-      subst P (sym same) (λ room' is'. hash_include w s t p goes accepted within room' is') room is)
+    let same : x ≡ 35 = sym (eqb-true 35 x hash) in
+    let P : ℕ → Type 0 = λ y. Room (class_of true (y ∷ w ++ s)) (y ∷ w) s p → IsPiece (class_of true (y ∷ w ++ s)) (y ∷ w ++ s) p → begins_include (y ∷ w ++ s) ≡ begins_include (y ∷ w ++ t) in
+    subst P (sym same) (λ room' is'. hash_include w s t p goes accepted within room' is') room is)
     (λ other.
-      let no_hash : (r : List ℕ) → begins_include (x ∷ r) ≡ false = λ r. and_left (nat_eq 35 x && true) _ (and_left (nat_eq 35 x) true other) in
-      no_hash (w ++ s) ∙ sym (no_hash (w ++ t)))
+    let no_hash : (r : List ℕ) → begins_include (x ∷ r) ≡ false = λ r. and_left (nat_eq 35 x && true) _ (and_left (nat_eq 35 x) true other) in
+    no_hash (w ++ s) ∙ sym (no_hash (w ++ t)))
     (cases_Bool (nat_eq 35 x))
 
 class_same : (fresh : Bool) (x : ℕ) (w s t : List ℕ) (b : ℕ) (p : Piece) → is_blank b ≡ true → GoesOn p → NotRefused p → width p ≤ length (x ∷ w) → Room (class_of fresh (x ∷ w ++ s)) (x ∷ w) s p → IsPiece (class_of fresh (x ∷ w ++ s)) (x ∷ w ++ s) p

@@ -77,20 +77,20 @@ stops_same test u stopped looks some [] s t m at within = absurd (omega arith)
 stops_same test u stopped looks some (a ∷ w) s t m at within =
     ⊎_elim
     (λ here.
-      let word : begins (a ∷ w ++ t) u ≡ true = sym (begins_same (a ∷ w) s t u (omega arith)) ∙ subst (λ k. begins (drop k (a ∷ w ++ s)) u ≡ true) here.1 at.word in
-      let Q : ℕ → Type 0 = λ k. StopsAt test u (a ∷ w ++ t) k in
-      subst Q (sym here.1) (record { place = place_first test a (w ++ t) (stopped (a ∷ w ++ t) word); word = word }))
+    let word : begins (a ∷ w ++ t) u ≡ true = sym (begins_same (a ∷ w) s t u (omega arith)) ∙ subst (λ k. begins (drop k (a ∷ w ++ s)) u ≡ true) here.1 at.word in
+    let Q : ℕ → Type 0 = λ k. StopsAt test u (a ∷ w ++ t) k in
+    subst Q (sym here.1) (record { place = place_first test a (w ++ t) (stopped (a ∷ w ++ t) word); word = word }))
     (λ after.
-      let k = after.1.0 in
-      let word : begins (drop k (w ++ s)) u ≡ true = subst (λ xs. begins xs u ≡ true) (ap (λ n. drop n (a ∷ w ++ s)) after.1.2 ∙ drop_next k a (w ++ s)) at.word in
-      let inside : k + length u ≤ length w = omega (arith, after.1.2) in
-      let rest = stops_same test u stopped looks some w s t k (record { place = after.1.1; word = word }) inside in
-      let fails : test (a ∷ w ++ t) ≡ false = sym (looks a k w s t word inside) ∙ after.0 in
-      let Q : ℕ → Type 0 = λ n. StopsAt test u (a ∷ w ++ t) n in
-      subst Q (sym after.1.2) (record {
-        place = place_later test a k (w ++ t) fails rest.place;
-        word = subst (λ xs. begins xs u ≡ true) (sym (drop_next k a (w ++ t))) rest.word;
-      }))
+    let k = after.1.0 in
+    let word : begins (drop k (w ++ s)) u ≡ true = subst (λ xs. begins xs u ≡ true) (ap (λ n. drop n (a ∷ w ++ s)) after.1.2 ∙ drop_next k a (w ++ s)) at.word in
+    let inside : k + length u ≤ length w = omega (arith, after.1.2) in
+    let rest = stops_same test u stopped looks some w s t k (record { place = after.1.1; word = word }) inside in
+    let fails : test (a ∷ w ++ t) ≡ false = sym (looks a k w s t word inside) ∙ after.0 in
+    let Q : ℕ → Type 0 = λ n. StopsAt test u (a ∷ w ++ t) n in
+    subst Q (sym after.1.2) (record {
+      place = place_later test a k (w ++ t) fails rest.place;
+      word = subst (λ xs. begins xs u ≡ true) (sym (drop_next k a (w ++ t))) rest.word;
+    }))
     (place_parts test a m (w ++ s) at.place)
 
 -- ---- the three kinds of stops
@@ -198,11 +198,11 @@ line_local x y w s t p goes room is =
     ⊎_elim
     (λ unended. absurd (omega (arith, ap width (is ∙ unended), length-append w s)))
     (λ ended.
-      let m = ended.0 in
-      let inside : m + 1 ≤ length w = omega (arith, ap width (is ∙ ended.2)) in
-      let word = line_stopped (drop m (w ++ s)) (place_passes (stops stop.LineComment) (w ++ s) m ended.1.place) ended.1.clear in
-      let at = stops_same (stops stop.LineComment) (10 ∷ []) newline_stops_line line_looks (omega arith) w s t m (record { place = ended.1.place; word = word }) inside in
-      is ∙ ended.2 ∙ sym (line_end_at piece.Comment 2 (w ++ t) (first_place (stops stop.LineComment) (w ++ t)) m (record { place = at.place; clear = newline_clear (drop m (w ++ t)) at.word })))
+    let m = ended.0 in
+    let inside : m + 1 ≤ length w = omega (arith, ap width (is ∙ ended.2)) in
+    let word = line_stopped (drop m (w ++ s)) (place_passes (stops stop.LineComment) (w ++ s) m ended.1.place) ended.1.clear in
+    let at = stops_same (stops stop.LineComment) (10 ∷ []) newline_stops_line line_looks (omega arith) w s t m (record { place = ended.1.place; word = word }) inside in
+    is ∙ ended.2 ∙ sym (line_end_at piece.Comment 2 (w ++ t) (first_place (stops stop.LineComment) (w ++ t)) m (record { place = at.place; clear = newline_clear (drop m (w ++ t)) at.word })))
     (line_end_parts piece.Comment 2 (w ++ s) (first_place (stops stop.LineComment) (w ++ s)) (subst GoesOn is goes))
 
 -- an include line with the newline or the two bytes of a comment behind it in the front
@@ -228,14 +228,14 @@ include_local x w s t p goes room behind is =
         ⊎_elim
         (λ newline. at_newline m ended p_is (subst (λ xs. begins xs (10 ∷ []) ≡ true) next newline))
         (λ two.
-          ⊎_elim
-          (λ newline. at_newline m ended p_is newline)
-          (λ comment.
-            ⊎_elim
-            (λ slashes. same m (codes "//") slashes_stop_include (include_comment_looks 47) (omega arith) (slash_clear 47) ended.place slashes (omega (arith, ap width p_is)) p_is)
-            (λ star. same m (codes "/*") star_stops_include (include_comment_looks 42) (omega arith) (slash_clear 42) ended.place star (omega (arith, ap width p_is)) p_is)
-            comment)
-          (include_stopped (drop m (w ++ s)) (place_passes (stops stop.IncludeLine) (w ++ s) m ended.place) ended.clear))
+        ⊎_elim
+        (λ newline. at_newline m ended p_is newline)
+        (λ comment.
+        ⊎_elim
+        (λ slashes. same m (codes "//") slashes_stop_include (include_comment_looks 47) (omega arith) (slash_clear 47) ended.place slashes (omega (arith, ap width p_is)) p_is)
+        (λ star. same m (codes "/*") star_stops_include (include_comment_looks 42) (omega arith) (slash_clear 42) ended.place star (omega (arith, ap width p_is)) p_is)
+        comment)
+        (include_stopped (drop m (w ++ s)) (place_passes (stops stop.IncludeLine) (w ++ s) m ended.place) ended.clear))
         behind
 
 -- a `/* */` comment
@@ -285,6 +285,6 @@ block_local x y w s t p goes within is =
     let at = stops_same (stops stop.BlockComment) (codes "*/") end_stops_block block_looks (omega arith) w s t m parts.1.at inside in
     let clear : continues_in_comment (w ++ t) ≡ false = sym (block_clear_same w s t m parts.1.at.word inside) ∙ parts.1.clear in
     parts.1.is ∙ sym (
-      cond-false (continues_in_comment (w ++ t)) (piece.Bad BadByte 2) (block_end (w ++ t) (first_place (stops stop.BlockComment) (w ++ t))) clear
-      ∙ ap (block_end (w ++ t)) at.place
-      ∙ cond-true (begins (drop m (w ++ t)) (codes "*/")) (piece.Comment (m + 4)) (piece.Bad BadByte (m + 3)) at.word)
+    cond-false (continues_in_comment (w ++ t)) (piece.Bad BadByte 2) (block_end (w ++ t) (first_place (stops stop.BlockComment) (w ++ t))) clear
+    ∙ ap (block_end (w ++ t)) at.place
+    ∙ cond-true (begins (drop m (w ++ t)) (codes "*/")) (piece.Comment (m + 4)) (piece.Bad BadByte (m + 3)) at.word)

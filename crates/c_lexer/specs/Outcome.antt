@@ -64,3 +64,10 @@ abbrev pub Gives : Result Tokens LexRefusal → Result Tokens LexRefusal → Typ
 Gives (Ok tokens) answer = answer ≡ Ok tokens
 Gives (Err refusal.Memory) answer = Unit {0}
 Gives (Err refusal) answer = answer ≡ Err refusal
+
+-- the tokens of a text that is read without a fault, none of them refused and none too deep
+pub record AreTokens (bytes : List ℕ) (tokens : Tokens) : Type 0 where
+  pub reads : Reads bytes (record { tokens = tokens.list; last_comment = tokens.last_comment; fault = None })
+  pub size : tokens.size ≡ length bytes
+  pub none_refused : first_refused tokens.list ≡ None
+  pub none_deep : first_deep false at_first tokens.list ≡ None

@@ -1,11 +1,13 @@
-ghost use Rattle.std.specs.Prelude.{◌≡◌, length};
+ghost use Rattle.std.specs.Prelude.{◌≡◌, length, IfOk};
 ghost use Rattle.c_lexer.specs.Scan.{Reads};
-ghost use Rattle.c_lexer.specs.Outcome.{refusal_of, first_refused, answer_for, IsAnswer, Gives};
+ghost use Rattle.c_lexer.specs.Outcome.{refusal_of, first_refused, answer_for, AreTokens, IsAnswer, Gives};
 ghost use Rattle.c_lexer.specs.declared.reading.Reading.{Reading};
 
 use crate::front::scan;
 use crate::nest::first_deep;
-use crate::{Fault, Kind, LexRefusal, Reading, Token, Tokens};
+use crate::piece::Fault;
+use crate::reading::Reading;
+use crate::{Kind, LexRefusal, Token, Tokens};
 use std::alloc::Global;
 
 fn refusal_of(fault: Fault, at: usize) -> LexRefusal
@@ -60,6 +62,9 @@ fn answer_for(alloc: Global, size: usize, reading: Reading) -> Result<Tokens, Le
 
 /// The tokens of a text (C99 6.4).
 pub fn lex(alloc: Global, bytes: &[u8]) -> Result<Tokens, LexRefusal>
+    // On Ok the text is read without a fault, no token is refused, and none is too deep.
+    ensures tokens { IfOk result (AreTokens bytes.now) }
+
     // The answer is that for a reading of the text, unless memory runs out.
     ensures read { IsAnswer bytes.now result }
     // No text has another reading.

@@ -5,12 +5,14 @@ ghost use Rattle.c_lexer.specs.Pieces.{IsPiece};
 ghost use Rattle.c_lexer.specs.Scan.{width, Reads};
 ghost use Rattle.c_lexer.specs.Front.{advanced, reading_at};
 
+use crate::Token;
 use crate::bytes::class_of;
 use crate::numbers::number;
+use crate::piece::{Class, Fault, Piece};
 use crate::punctuators::punctuator;
 use crate::quotes::{character, text};
+use crate::reading::Reading;
 use crate::spans::{block_comment, include_line, line_comment, word};
-use crate::{Class, Fault, Piece, Reading, Token};
 use mf_list::{Memory, Seq};
 use std::alloc::Global;
 

@@ -19,8 +19,5 @@ mod token;
 mod words;
 
 pub use answer::lex;
-pub use mark::Mark;
-pub use piece::{Class, Fault, Next, Piece, Quote, Stop};
-pub use reading::Reading;
 pub use refusal::LexRefusal;
 pub use token::{Kind, Token, Tokens};

@@ -4,8 +4,9 @@ ghost use Rattle.c_lexer.specs.Bytes.{is_digit, is_number_byte};
 ghost use Rattle.c_lexer.specs.Opening.{Fits};
 ghost use Rattle.c_lexer.specs.Pieces.{is_decimal, decimal_value, int_of, number_by, number_piece};
 
+use crate::Kind;
 use crate::bytes::{is_digit, number_len};
-use crate::{Fault, Kind, Piece};
+use crate::piece::{Fault, Piece};
 
 const GREATEST: u64 = 2_147_483_647;
 

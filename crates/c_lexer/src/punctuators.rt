@@ -2,8 +2,8 @@ ghost use Rattle.std.specs.Prelude.{◌≤◌, length};
 ghost use Rattle.c_lexer.specs.Opening.{Fits};
 ghost use Rattle.c_lexer.specs.Pieces.{IsPunctuator};
 
+use crate::piece::{Fault, Piece};
 use crate::words::punctuator_kind;
-use crate::{Fault, Piece};
 
 /// The number of bytes of the longest punctuator.
 const LONGEST: usize = 4;

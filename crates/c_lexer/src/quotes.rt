@@ -3,7 +3,8 @@ ghost use Rattle.c_lexer.specs.Opening.{Fits, Holds, Leaves};
 ghost use Rattle.c_lexer.specs.Pieces.{escaped, allowed, is_zero_escape, escape_next, next_of, one_character, quote_byte, unclosed, Ends, text_piece, character_piece, IsQuoted, Spells};
 ghost use Rattle.c_lexer.specs.declared.piece.Quote.TheVariants.{Double, Single};
 
-use crate::{Fault, Kind, Next, Piece, Quote};
+use crate::Kind;
+use crate::piece::{Fault, Next, Piece, Quote};
 use mf_list::{Memory, Seq};
 use std::alloc::Global;
 

@@ -1,4 +1,5 @@
-use crate::{Fault, Token};
+use crate::Token;
+use crate::piece::Fault;
 use mf_list::Seq;
 
 /// The tokens of a text up to its end or its first lexical fault.

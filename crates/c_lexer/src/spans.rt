@@ -5,8 +5,8 @@ ghost use Rattle.c_lexer.specs.Pieces.{first_place, line_comment, include_line, 
 ghost use Rattle.c_lexer.specs.Opening.{Fits};
 
 use crate::bytes::{continues, continues_in_comment, stops, word_len};
+use crate::piece::{Fault, Piece, Stop};
 use crate::words::kind_of_word;
-use crate::{Fault, Piece, Stop};
 use mf_list::Memory;
 use std::alloc::Global;
 
