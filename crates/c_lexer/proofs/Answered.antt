@@ -1,14 +1,13 @@
 -- What an answer says of the text.
-use Rattle.std.proofs.Common.{◌≡◌, ℕ, List, Option, Some, None, Result, Ok, Err, IfOk, false, length, sym, refl, ap, ◌∙◌, subst}
+use Rattle.std.proofs.Common.{◌≡◌, ℕ, List, Option, Some, None, Result, Ok, Err, IfOk, false, length, sym, refl, ap, subst}
 use Rattle.c_lexer.specs.declared.token.Token.{Token}
 use Rattle.c_lexer.specs.declared.token.Tokens.{Tokens}
 use Rattle.c_lexer.specs.declared.piece.Fault.{Fault}
 use Rattle.c_lexer.specs.declared.reading.Reading.{Reading}
 use Rattle.c_lexer.specs.declared.refusal.LexRefusal.{LexRefusal}
-use Rattle.c_lexer.specs.declared.refusal.LexRefusal.TheVariants as refusal
 use Rattle.c_lexer.specs.Scan.{Reads}
 use Rattle.c_lexer.specs.Nest.{at_first, first_deep}
-use Rattle.c_lexer.specs.Outcome.{refusal_of, first_refused, unless_deep, unless_refused, unless_fault, answer_for, AreTokens, Answers, IsAnswer}
+use Rattle.c_lexer.specs.Outcome.{first_refused, unless_deep, unless_refused, unless_fault, AreTokens, IsAnswer}
 
 reading_is : (r : Reading) (tokens : List Token) (c : Option (ℕ × ℕ)) → r.tokens ≡ tokens → r.last_comment ≡ c → r.fault ≡ None → let x : Reading = record { tokens = tokens; last_comment = c; fault = None } in r ≡ x
 reading_is r tokens c p q f = λ i. record { tokens = p i; last_comment = q i; fault = f i }

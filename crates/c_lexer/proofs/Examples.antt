@@ -1,5 +1,5 @@
 -- The definitions, computed.
-use Rattle.std.proofs.Common.{◌≡◌, ℕ, ◌<◌, ◌≤◌, List, [], ◌∷◌, ◌++◌, Some, None, true, false, pos, take, subst, refl, arith}
+use Rattle.std.proofs.Common.{◌≡◌, ℕ, [], ◌∷◌, ◌++◌, Some, None, true, false, pos, take, subst, refl, arith}
 use Rattle.std.specs.Prelude.{codes}
 use Rattle.c_lexer.specs.declared.token.Kind.TheVariants as kind
 use Rattle.c_lexer.specs.declared.token.Token.{Token}
@@ -12,7 +12,7 @@ use Rattle.c_lexer.specs.Words.{key_word, punctuator, refused_word, refused_punc
 use Rattle.c_lexer.specs.Bytes.{class_of}
 use Rattle.c_lexer.specs.Pieces.{word_piece, number_piece, line_comment, include_line, block_comment, Spells, none, plain, escape, IsPunctuator}
 use Rattle.c_lexer.specs.Scan.{Reads, ends, goes_on}
-use Rattle.c_lexer.specs.Nest.{at_first, nest, behind, first_deep}
+use Rattle.c_lexer.specs.Nest.{at_first, nest, behind}
 
 -- the tables
 last_key_word : key_word (codes "while") ≡ Some 18

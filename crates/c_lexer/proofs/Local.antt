@@ -1,23 +1,21 @@
 -- A piece at the front of a text doesn't depend on what follows it, where a blank does.
-use Rattle.std.proofs.Common.{◌≡◌, ℕ, zero, suc, ◌+◌, ◌-◌, ◌<◌, ◌≤◌, Bool, true, false, ◌&&◌, ◌||◌, cond, List, [], ◌∷◌, ◌++◌, Option, Some, None, length, take, drop, nat_eq, not, sym, refl, ap, ◌∙◌, subst, ⊎_elim, arith, length-append}
-use Rattle.std.specs.Prelude.{codes, ◌==◌, nat_le}
+use Rattle.std.proofs.Common.{◌≡◌, ℕ, zero, suc, ◌+◌, ◌<◌, ◌≤◌, Bool, true, false, ◌||◌, cond, List, [], ◌∷◌, ◌++◌, Option, Some, None, length, take, nat_eq, not, sym, refl, ap, ◌∙◌, subst, ⊎_elim, arith, length-append}
+use Rattle.std.specs.Prelude.{◌==◌, nat_le}
 use Rattle.std.specs.List.{prefix_len, list_all}
 use Rattle.std.specs.Cmp.Lexicographic.{pointwise}
-use Rattle.std.proofs.lemmas.Bool.{and_parts, or_parts, or_cases, or_left, or_right, cond-true, cond-false, cases_Bool, cases_lt, eqb-true, leb-true, false≢true, true≢false}
+use Rattle.std.proofs.lemmas.Bool.{and_parts, or_cases, or_left, or_right, cond-true, cond-false, cases_Bool, cases_lt, eqb-true, leb-true, false≢true, true≢false}
 use Rattle.std.proofs.lemmas.Bool.Decides.{nat_tests}
 use Rattle.std.proofs.lemmas.List.{take-append-le}
-use Rattle.c_lexer.specs.declared.piece.Stop.TheVariants as stop
 use Rattle.c_lexer.specs.declared.piece.Piece.{Piece}
 use Rattle.c_lexer.specs.declared.piece.Piece.TheVariants as piece
 use Rattle.c_lexer.specs.declared.piece.Quote.{Quote}
 use Rattle.c_lexer.specs.declared.piece.Quote.TheVariants.{Double, Single}
 use Rattle.c_lexer.specs.declared.piece.Next.{Next}
 use Rattle.c_lexer.specs.declared.piece.Next.TheVariants.{Plain, Escape, Close, LineEnd, NoByte, NoEscape}
-use Rattle.c_lexer.specs.declared.token.Kind.{Kind}
 use Rattle.c_lexer.specs.declared.token.Kind.TheVariants as kind
 use Rattle.c_lexer.specs.Bytes.{within, is_blank, is_word_byte, is_number_byte}
 use Rattle.c_lexer.specs.Words.{punctuator_kind, place_of, punctuator, refused_punctuator, punctuators, refused_punctuators, or_else, as_kind, kind_of_word}
-use Rattle.c_lexer.specs.Pieces.{Spells, none, plain, escape, next_of, escape_next, quote_byte, allowed, escaped, or_zero, is_zero_escape, word_piece, number_piece, number_by, IsQuoted, text_piece, character_piece, unclosed, IsPunctuator}
+use Rattle.c_lexer.specs.Pieces.{Spells, none, plain, escape, next_of, escape_next, quote_byte, allowed, escaped, or_zero, is_zero_escape, word_piece, number_piece, number_by, IsQuoted, text_piece, character_piece, IsPunctuator}
 use Rattle.c_lexer.specs.Scan.{width, GoesOn}
 
 -- ---- blanks

@@ -1,8 +1,8 @@
 -- What is read up to a place doesn't depend on what follows there, where a blank does.
-use Rattle.std.proofs.Common.{◌≡◌, ℕ, zero, suc, ◌+◌, ◌-◌, ◌<◌, ◌≤◌, Bool, true, false, ◌&&◌, ◌||◌, cond, List, [], ◌∷◌, ◌++◌, Some, None, length, take, drop, sym, refl, ap, ◌∙◌, subst, inl, inr, ⊎_elim, arith, length-append, length-drop}
+use Rattle.std.proofs.Common.{◌≡◌, ℕ, zero, suc, ◌+◌, ◌<◌, ◌≤◌, Bool, true, false, ◌&&◌, cond, List, [], ◌∷◌, ◌++◌, length, take, drop, sym, refl, ap, ◌∙◌, subst, inl, inr, ⊎_elim, arith, length-append, length-drop}
 use Rattle.std.specs.Prelude.{codes, ◌⊎◌, ◌==◌}
 use Rattle.std.specs.List.{prefix_len}
-use Rattle.std.proofs.lemmas.Bool.{or_left, cond-true, cases_order, cases_lt, false≢true}
+use Rattle.std.proofs.lemmas.Bool.{or_left, cond-true, cases_lt, false≢true}
 use Rattle.c_lexer.specs.declared.token.Token.{Token}
 use Rattle.c_lexer.specs.declared.piece.Class.{Class}
 use Rattle.c_lexer.specs.declared.piece.Class.TheVariants as class
@@ -13,13 +13,13 @@ use Rattle.c_lexer.specs.declared.piece.Quote.{Quote}
 use Rattle.c_lexer.specs.declared.piece.Quote.TheVariants.{Double, Single}
 use Rattle.c_lexer.specs.declared.piece.Next.{Next}
 use Rattle.c_lexer.specs.declared.reading.Reading.{Reading}
-use Rattle.c_lexer.specs.Bytes.{is_blank, is_digit, is_word_byte, is_number_byte, within, begins, begins_include, continues, stops, class_of}
-use Rattle.c_lexer.specs.Pieces.{IsPiece, IsPunctuator, IsQuoted, first_place, number_by, text_piece, character_piece}
+use Rattle.c_lexer.specs.Bytes.{is_blank, is_digit, is_word_byte, is_number_byte, begins, begins_include, stops, class_of}
+use Rattle.c_lexer.specs.Pieces.{IsPiece, IsPunctuator, IsQuoted, first_place, text_piece, character_piece}
 use Rattle.c_lexer.specs.Scan.{width, GoesOn, fresh_behind, reading_from}
 use Rattle.c_lexer.proofs.Local.{Closed, text_closed, character_closed}
 use Rattle.c_lexer.proofs.LocalSpans.{line_end_parts, block_parts, place_passes, line_stopped, include_stopped}
 use Rattle.c_lexer.proofs.LocalPiece.{IsAccepted, NotRefused, Room, piece_local, drop_front, slashes_wide, star_wide, line_wide, number_width}
-use Rattle.c_lexer.proofs.Passes.{Passes, here, past, nothing}
+use Rattle.c_lexer.proofs.Passes.{Passes, here, past}
 
 -- ---- a piece that others follow has a byte
 

@@ -1,9 +1,9 @@
 -- The piece at the front of a text is the same whatever follows the front, where a blank does.
-use Rattle.std.proofs.Common.{◌≡◌, ℕ, zero, suc, ◌+◌, ◌-◌, ◌<◌, ◌≤◌, Bool, true, false, ◌&&◌, ◌||◌, cond, List, [], ◌∷◌, ◌++◌, Option, Some, None, length, take, drop, nat_eq, sym, refl, ap, ◌∙◌, subst, inl, inr, ⊎_elim, arith, add-one, length-append, length-drop}
+use Rattle.std.proofs.Common.{◌≡◌, ℕ, zero, suc, ◌+◌, ◌<◌, ◌≤◌, Bool, true, false, ◌&&◌, cond, List, [], ◌∷◌, ◌++◌, Option, Some, None, length, take, drop, nat_eq, sym, refl, ap, ◌∙◌, subst, ⊎_elim, arith, add-one, length-append, length-drop}
 use Rattle.std.specs.Prelude.{codes, ◌⊎◌, ◌==◌, ℤ}
-use Rattle.std.specs.List.{prefix_len, list_all}
+use Rattle.std.specs.List.{prefix_len}
 use Rattle.std.specs.Cmp.Lexicographic.{pointwise}
-use Rattle.std.proofs.lemmas.Bool.{and_parts, and_from, and_left, and_right, or_parts, or_cases, or_from, cond-true, cond-false, cases_Bool, eqb-true, ne_eqb, false_from_ne_true, false≢true, true≢false}
+use Rattle.std.proofs.lemmas.Bool.{and_parts, and_left, and_right, or_cases, or_from, cond-true, cond-false, cases_Bool, eqb-true, ne_eqb, false_from_ne_true, false≢true}
 use Rattle.c_lexer.specs.declared.piece.Class.{Class}
 use Rattle.c_lexer.specs.declared.piece.Class.TheVariants as class
 use Rattle.c_lexer.specs.declared.piece.Stop.TheVariants as stop
@@ -12,12 +12,12 @@ use Rattle.c_lexer.specs.declared.piece.Piece.TheVariants as piece
 use Rattle.c_lexer.specs.declared.piece.Quote.TheVariants.{Double, Single}
 use Rattle.c_lexer.specs.declared.token.Kind.{Kind}
 use Rattle.c_lexer.specs.declared.token.Kind.TheVariants as kind
-use Rattle.c_lexer.specs.Bytes.{is_blank, is_digit, is_word_byte, is_number_byte, is_space, begins, begins_include, continues, stops, class_of}
-use Rattle.c_lexer.specs.Words.{number_form, punctuator_kind, punctuator, refused_punctuator, or_else, as_kind}
-use Rattle.c_lexer.specs.Pieces.{int_of, decimal_piece, decimal_value, is_decimal, number_by, first_place, line_end, line_comment, include_line, block_comment, IsPiece, IsPunctuator, text_piece, character_piece}
+use Rattle.c_lexer.specs.Bytes.{is_blank, is_digit, is_word_byte, is_number_byte, is_space, begins, begins_include, stops, class_of}
+use Rattle.c_lexer.specs.Words.{number_form, refused_punctuator, or_else, as_kind}
+use Rattle.c_lexer.specs.Pieces.{int_of, decimal_piece, decimal_value, is_decimal, number_by, first_place, line_end, include_line, IsPiece, IsPunctuator, text_piece, character_piece}
 use Rattle.c_lexer.specs.Scan.{width, GoesOn}
-use Rattle.c_lexer.proofs.Local.{blank_low, front_same, word_same, number_same, quoted_local, text_closed, character_closed, punctuator_local}
-use Rattle.c_lexer.proofs.LocalSpans.{place_parts, EndsAt, line_end_parts, line_local, include_local, block_local, block_parts, begins_same}
+use Rattle.c_lexer.proofs.Local.{blank_low, word_same, number_same, quoted_local, text_closed, character_closed, punctuator_local}
+use Rattle.c_lexer.proofs.LocalSpans.{place_parts, line_end_parts, line_local, include_local, block_local, block_parts, begins_same}
 
 -- ---- an accepted token
 

@@ -1,10 +1,9 @@
 -- Comments and include lines don't depend on what follows the place where they stop.
-use Rattle.std.proofs.Common.{◌≡◌, ℕ, zero, suc, ◌+◌, ◌-◌, ◌<◌, ◌≤◌, Bool, true, false, ◌&&◌, ◌||◌, cond, List, [], ◌∷◌, ◌++◌, Option, Some, None, length, take, drop, nat_eq, sym, refl, ap, ◌∙◌, subst, inl, inr, ⊎_elim, arith, add-one, length-append}
+use Rattle.std.proofs.Common.{◌≡◌, ℕ, ◌+◌, ◌<◌, ◌≤◌, Bool, true, false, ◌&&◌, ◌||◌, cond, List, [], ◌∷◌, ◌++◌, Option, Some, None, length, take, drop, nat_eq, sym, refl, ap, ◌∙◌, subst, inl, inr, ⊎_elim, arith, add-one, length-append}
 use Rattle.std.specs.Prelude.{codes, ◌⊎◌}
 use Rattle.std.specs.Cmp.Lexicographic.{pointwise}
-use Rattle.std.proofs.lemmas.Bool.{and_parts, or_parts, or_cases, or_left, or_right, cond-true, cond-false, cases_Bool, eqb-true, false≢true, true≢false}
+use Rattle.std.proofs.lemmas.Bool.{and_parts, or_cases, or_left, or_right, cond-true, cond-false, cases_Bool, eqb-true, false≢true}
 use Rattle.c_lexer.specs.declared.piece.Fault.TheVariants.{BadByte}
-use Rattle.c_lexer.specs.declared.piece.Stop.{Stop}
 use Rattle.c_lexer.specs.declared.piece.Stop.TheVariants as stop
 use Rattle.c_lexer.specs.declared.piece.Piece.{Piece}
 use Rattle.c_lexer.specs.declared.piece.Piece.TheVariants as piece

@@ -1,24 +1,15 @@
 -- Reading a text up to a place: how readings are joined and shifted, and that what is read up to a place doesn't depend
 -- on what follows there, where a blank does.
-use Rattle.std.proofs.Common.{◌≡◌, ℕ, zero, suc, ◌+◌, ◌-◌, ◌<◌, ◌≤◌, Bool, true, false, ◌&&◌, ◌||◌, cond, List, [], ◌∷◌, ◌++◌, map, Option, Some, None, length, take, drop, nat_eq, sym, refl, ap, ◌∙◌, subst, inl, inr, ⊎_elim, arith, append_assoc, length-append, length-drop}
-use Rattle.std.specs.Prelude.{codes, ◌⊎◌, ◌==◌}
-use Rattle.std.specs.List.{prefix_len}
-use Rattle.std.proofs.lemmas.Bool.{or_left, cond-true, false≢true}
+use Rattle.std.proofs.Common.{◌≡◌, ℕ, ◌+◌, Bool, List, [], ◌∷◌, ◌++◌, map, Option, Some, None, drop, sym, refl, ap, ◌∙◌, subst, arith}
 use Rattle.std.proofs.lemmas.List.{drop-drop}
 use Rattle.c_lexer.specs.declared.token.Token.{Token}
 use Rattle.c_lexer.specs.declared.piece.Fault.{Fault}
-use Rattle.c_lexer.specs.declared.piece.Class.{Class}
-use Rattle.c_lexer.specs.declared.piece.Class.TheVariants as class
-use Rattle.c_lexer.specs.declared.piece.Stop.TheVariants as stop
 use Rattle.c_lexer.specs.declared.piece.Piece.{Piece}
 use Rattle.c_lexer.specs.declared.piece.Piece.TheVariants as piece
 use Rattle.c_lexer.specs.declared.reading.Reading.{Reading}
-use Rattle.c_lexer.specs.Bytes.{is_blank, is_digit, is_word_byte, is_number_byte, begins, begins_include, continues, stops, class_of}
-use Rattle.c_lexer.specs.Pieces.{IsPiece, IsPunctuator, IsQuoted, first_place, text_piece, character_piece}
+use Rattle.c_lexer.specs.Bytes.{class_of}
+use Rattle.c_lexer.specs.Pieces.{IsPiece}
 use Rattle.c_lexer.specs.Scan.{Scan, ends, goes_on, width, GoesOn, fresh_behind, last_reading, later, reading_from}
-use Rattle.c_lexer.proofs.Local.{Closed, text_closed, character_closed}
-use Rattle.c_lexer.proofs.LocalSpans.{line_end_parts, block_parts, place_passes, line_stopped, include_stopped}
-use Rattle.c_lexer.proofs.LocalPiece.{IsAccepted, NotRefused, Room, piece_local, drop_front, slashes_wide, star_wide, line_wide, number_width, class_by}
 
 -- nothing read
 abbrev pub nothing : Reading

@@ -1,5 +1,5 @@
 -- Classes of bytes (C99 5.2.1), and what begins at the front of a text.
-use Rattle.std.specs.Prelude.{ℕ, Bool, true, false, ◌&&◌, ◌||◌, ◌==◌, nat_le, List, [], ◌∷◌, if◌then◌else◌, nat_eq, codes, length, drop}
+use Rattle.std.specs.Prelude.{ℕ, Bool, true, false, ◌&&◌, ◌||◌, ◌==◌, nat_le, List, [], ◌∷◌, if◌then◌else◌, nat_eq, codes, drop}
 use Rattle.std.specs.List.{starts_with, prefix_len}
 use Rattle.c_lexer.specs.declared.piece.Class.{Class}
 use Rattle.c_lexer.specs.declared.piece.Class.TheVariants as class
