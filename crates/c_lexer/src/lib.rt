@@ -1,6 +1,23 @@
 //! The tokens of a C text.
 #![tactic(auto)]
 
+mod answer;
+mod bytes;
+mod front;
+mod mark;
+mod nest;
+mod numbers;
+mod piece;
+mod punctuators;
+mod quotes;
+mod reading;
+mod refusal;
+mod spans;
+#[cfg(test)]
+mod tests;
 mod token;
+mod words;
 
+pub use answer::lex;
+pub use refusal::LexRefusal;
 pub use token::{Kind, Token, Tokens};

@@ -1,0 +1,14 @@
+pub mod Places
+pub mod Decimals
+pub mod Quoted
+pub mod Longest
+pub mod Scanned
+pub mod Unique
+pub mod Local
+pub mod LocalSpans
+pub mod LocalPiece
+pub mod Passes
+pub mod LocalPasses
+pub mod UpTo
+pub mod Answered
+mod Examples

@@ -1,0 +1,12 @@
+use Rattle.c_lexer.proofs.Answered.{ok_answered}
+use Rattle.c_lexer.proofs.Unique.{gives_for, is_answer_for}
+use Rattle.c_lexer.proofs.answer.lex.Goals as goal
+
+pub returns-clause-read : goal.returns-clause-read
+returns-clause-read c = is_answer_for c.args.bytes.now c.in_ok-reading.reading c.answer_for.result c.in_ok-reading.ensures c.answer_for.ensures
+
+pub returns-clause-only : goal.returns-clause-only
+returns-clause-only c = λ r reads. gives_for c.args.bytes.now c.in_ok-reading.reading r c.answer_for.result c.in_ok-reading.ensures c.answer_for.ensures reads
+
+pub returns-clause-tokens : goal.returns-clause-tokens
+returns-clause-tokens c = ok_answered c.args.bytes.now c.answer_for.result (is_answer_for c.args.bytes.now c.in_ok-reading.reading c.answer_for.result c.in_ok-reading.ensures c.answer_for.ensures)

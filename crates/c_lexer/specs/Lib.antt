@@ -1,0 +1,8 @@
+pub mod Bytes
+pub mod Opening
+pub mod Words
+pub mod Pieces
+pub mod Scan
+pub mod Front
+pub mod Nest
+pub mod Outcome

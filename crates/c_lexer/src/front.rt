@@ -1,0 +1,121 @@
+ghost use Rattle.std.specs.Prelude.{◌≡◌, ◌+◌, ◌<◌, ◌^◌, IfOk, OnOk, Some, None};
+ghost use Rattle.c_lexer.specs.Bytes.{class_of};
+ghost use Rattle.c_lexer.specs.Opening.{Fits};
+ghost use Rattle.c_lexer.specs.Pieces.{IsPiece};
+ghost use Rattle.c_lexer.specs.Scan.{width, Reads};
+ghost use Rattle.c_lexer.specs.Front.{advanced, reading_at};
+
+use crate::Token;
+use crate::bytes::class_of;
+use crate::numbers::number;
+use crate::piece::{Class, Fault, Piece};
+use crate::punctuators::punctuator;
+use crate::quotes::{character, text};
+use crate::reading::Reading;
+use crate::spans::{block_comment, include_line, line_comment, word};
+use mf_list::{Memory, Seq};
+use std::alloc::Global;
+
+/// How far a text is read.
+#[derive(Debug, Drop)]
+pub struct Front {
+    /// Only blanks stand on the line so far.
+    pub fresh: bool,
+    pub at: usize,
+    pub tokens: Seq<Token>,
+    pub last_comment: Option<(usize, usize)>,
+}
+
+/// The piece at the front of a text.
+pub fn piece_at(alloc: Global, fresh: bool, rest: &[u8]) -> Result<Piece, Memory>
+    ensures piece { IfOk result (λ p. IsPiece (class_of fresh rest.now) rest.now p) }
+    ensures fits { IfOk result (λ p. Fits p rest.now) }
+{
+    match class_of(fresh, rest) {
+        Class::End => Ok(Piece::End),
+        Class::Blank => Ok(Piece::Blank),
+        Class::LineComment => Ok(line_comment(rest)),
+        Class::BlockComment => Ok(block_comment(rest)),
+        Class::IncludeLine => Ok(include_line(rest)),
+        Class::Word => word(alloc, rest),
+        Class::Digits => Ok(number(rest)),
+        Class::Text => text(alloc, rest),
+        Class::Character => character(alloc, rest),
+        Class::Other => Ok(punctuator(rest)),
+    }
+}
+
+impl Front {
+    /// Goes past the piece at the front of the rest of the text.
+    pub fn advance(&mut self, rest: &[u8], piece: Piece) -> Result<(), Memory>
+        requires { self.old.at + width piece < 2 ^ 64 }
+        ensures { OnOk result (self.new ≡ advanced self.old rest.now piece) }
+    {
+        let start = self.at;
+        match piece {
+            Piece::Blank => {
+                self.fresh = self.fresh || rest.starts_with(b"\n");
+                self.at = start + 1;
+            }
+            Piece::Comment(n) => {
+                self.fresh = false;
+                self.at = start + n;
+                self.last_comment = Some((start, start + n));
+            }
+            Piece::Include(n) => {
+                self.fresh = false;
+                self.at = start + n;
+            }
+            Piece::Lexeme(kind, n) => {
+                self.tokens.push(Token {
+                    kind,
+                    start,
+                    end: start + n,
+                })?;
+                self.fresh = false;
+                self.at = start + n;
+            }
+            Piece::End | Piece::Bad(_, _) => {}
+        }
+        Ok(())
+    }
+
+    fn reading(self, fault: Option<(Fault, usize)>) -> Reading
+        ensures { result ≡ reading_at self fault }
+    {
+        let Front {
+            fresh: _,
+            at: _,
+            tokens,
+            last_comment,
+        } = self;
+        Reading {
+            tokens,
+            last_comment,
+            fault,
+        }
+    }
+}
+
+/// The tokens of a text, up to its end or its first lexical fault.
+pub fn scan(alloc: Global, bytes: &[u8]) -> Result<Reading, Memory>
+    ensures { IfOk result (λ r. Reads bytes.now r) }
+{
+    let mut front = Front {
+        fresh: true,
+        at: 0,
+        tokens: Seq::new(alloc),
+        last_comment: None,
+    };
+    loop {
+        let rest = &bytes[front.at..];
+        match piece_at(alloc, front.fresh, rest)? {
+            Piece::End => return Ok(front.reading(None)),
+            Piece::Bad(fault, n) => {
+                let at = front.at + n;
+                return Ok(front.reading(Some((fault, at))));
+            }
+            piece => front.advance(rest, piece)?,
+        }
+    }
+}
