@@ -28,6 +28,7 @@ use Rattle.memfix_engine.specs.Reading.{var_of, item_piece, gap_of, with_item, w
 use Rattle.memfix_engine.specs.Reads.{is_plain_deed}
 use Rattle.memfix_engine.specs.Straight as straight
 use Rattle.memfix_engine.specs.Straight.{IsStraight, declares, stores, shows, Straight, empty_gap, IsSound}
+use Rattle.memfix_engine.proofs.FormLemmas.{matches-length}
 use Rattle.memfix_engine.proofs.VarLemmas.{position-snoc_some, position-snoc_none, position-below, slice_get-snoc, pointwise_same, letter_is_name}
 
 -- names of one letter
@@ -62,8 +63,8 @@ fits_name _ h = cc
 
 make_lettered : (ts : List Token) → matches (wants pattern.Make) ts ≡ true → is_letter_name (word_at ts 2) ≡ true
 make_lettered [] h = cc
-make_lettered (a ∷ []) h = absurd (let e : false ≡ true = right_of _ _ h in cc)
-make_lettered (a ∷ b ∷ []) h = absurd (let e : false ≡ true = right_of _ _ (right_of _ _ h) in cc)
+make_lettered (a ∷ []) h = let long : 12 ≡ 1 = matches-length (wants pattern.Make) (a ∷ []) h in absurd (omega arith)
+make_lettered (a ∷ b ∷ []) h = let long : 12 ≡ 2 = matches-length (wants pattern.Make) (a ∷ b ∷ []) h in absurd (omega arith)
 make_lettered (a ∷ b ∷ c ∷ ts) h = fits_name c.kind (left_of _ _ (right_of _ _ (right_of _ _ h)))
 
 lettered_by : (p : Pattern) (ts : List Token) → matches (wants p) ts ≡ true → IsLetteredDeed (deed_of p ts)

@@ -1,6 +1,5 @@
 -- Fewer tokens than the pattern has don't match.
-use Rattle.std.proofs.Common.{◌≡◌, sym, ◌∙◌, ap, arith, length, ◌<◌, false, nat_le}
-use Rattle.std.proofs.lemmas.Bool.{lt-leb}
+use Rattle.std.proofs.Common.{arith, length, ◌<◌}
 use Rattle.memfix_engine.specs.Form.{wants}
 use Rattle.memfix_engine.proofs.FormLemmas.{begins-short}
 use Rattle.memfix_engine.proofs.form.begins.Goals as goal

@@ -1,6 +1,6 @@
 -- What follows the steps is no tail of the form.
-use Rattle.std.proofs.Common.{◌≡◌, rules, sym, ◌∙◌, ap, arith, take, drop, true, None}
-use Rattle.memfix_engine.specs.Form.{matches, tail_pattern, pattern_at, Steps}
+use Rattle.std.proofs.Common.{◌≡◌, rules, take, drop, None}
+use Rattle.memfix_engine.specs.Form.{pattern_at, Steps}
 use Rattle.memfix_engine.proofs.FormLemmas.{IsForm-tail}
 use Rattle.memfix_engine.proofs.form.draft_of.Goals as goal
 

@@ -1,6 +1,6 @@
 -- A step more is read off the tokens behind those that are read.
-use Rattle.std.proofs.Common.{◌≡◌, ◌+◌, ◌≤◌, rules, arith, length, take, drop, length-drop, ◌++◌, [], ◌∷◌}
-use Rattle.memfix_engine.specs.Form.{Spells, Steps, none}
+use Rattle.std.proofs.Common.{◌≤◌, rules, arith, length, take, drop, length-drop}
+use Rattle.memfix_engine.specs.Form.{Spells, none}
 use Rattle.memfix_engine.proofs.FormLemmas.{Steps-read}
 use Rattle.memfix_engine.proofs.form.steps_of.Goals as goal
 

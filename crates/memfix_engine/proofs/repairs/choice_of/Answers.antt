@@ -1,7 +1,6 @@
 -- The puts ascend by variable.
-use Rattle.std.proofs.Common.{◌≡◌, ◌++◌, [], ◌∷◌, map, rules, sym, ◌∙◌, ap, subst, true}
+use Rattle.std.proofs.Common.{◌≡◌, ◌++◌, [], ◌∷◌, map, sym, ◌∙◌, ap}
 use Rattle.std.specs.List.{range_with_len}
-use Rattle.std.specs.Prelude.{IsTrue}
 use Rattle.c_tree.specs.Fill.{ascends}
 use Rattle.memfix_engine.specs.Repair.{put_of}
 use Rattle.memfix_engine.proofs.EditLemmas.{puts-more, ascends-range}

@@ -1,5 +1,5 @@
 -- Each refusal has its cause in the one token list and the one draft of the text.
-use Rattle.std.proofs.Common.{◌≡◌, rules, refl, true, false, Some, None, sym, ◌∙◌, ap, subst}
+use Rattle.std.proofs.Common.{◌≡◌, rules, refl, true, false, Some, None, subst}
 use Rattle.memfix_engine.specs.declared.draft.Draft.{Draft}
 use Rattle.memfix_engine.specs.Scan.{Scans}
 use Rattle.memfix_engine.specs.Form.{IsForm}
