@@ -63,8 +63,8 @@ fits_name _ h = cc
 
 make_lettered : (ts : List Token) → matches (wants pattern.Make) ts ≡ true → is_letter_name (word_at ts 2) ≡ true
 make_lettered [] h = cc
-make_lettered (a ∷ []) h = let long : 12 ≡ 1 = matches-length (wants pattern.Make) (a ∷ []) h in absurd (omega arith)
-make_lettered (a ∷ b ∷ []) h = let long : 12 ≡ 2 = matches-length (wants pattern.Make) (a ∷ b ∷ []) h in absurd (omega arith)
+make_lettered (a ∷ []) h = absurd (omega (arith, matches-length (wants pattern.Make) (a ∷ []) h))
+make_lettered (a ∷ b ∷ []) h = absurd (omega (arith, matches-length (wants pattern.Make) (a ∷ b ∷ []) h))
 make_lettered (a ∷ b ∷ c ∷ ts) h = fits_name c.kind (left_of _ _ (right_of _ _ (right_of _ _ h)))
 
 lettered_by : (p : Pattern) (ts : List Token) → matches (wants p) ts ≡ true → IsLetteredDeed (deed_of p ts)
