@@ -1,15 +1,12 @@
 -- What the statuses say, from the outcome and what was written.
-use Rattle.std.proofs.Common.{◌≡◌, ◌⊎◌, inl, inr, ℕ, ◌<◌, ◌≤◌, Bool, true, false, Option, Some, List, length, String, arith, refl, sym, ◌∙◌, subst}
+use Rattle.std.proofs.Common.{◌≡◌, ◌⊎◌, inl, inr, ℕ, ◌≤◌, true, false, Option, Some, List, length, String, arith, refl, sym, ◌∙◌, subst}
 use Rattle.std.specs.declared.alloc.Global.{Global}
-use Rattle.c_tree.specs.declared.program.Program.{Program}
-use Rattle.mf_io.specs.Bytes.{Takes}
 use Rattle.mf_io.specs.Faults.{Rose}
-use Rattle.mf_io.specs.Whole.{TakesPart}
 use Rattle.memfix_engine.specs.declared.outcome.Outcome.{Outcome}
 use Rattle.memfix_engine.specs.declared.outcome.Outcome.TheVariants.{Done, NotBuilt, Usage, TooLong, ReadFault, Memory}
 use Rattle.memfix_engine.specs.Reads.{IsBuilt}
 use Rattle.memfix_engine.specs.Refusal.{source_limit}
-use Rattle.memfix_engine.specs.Outcome.{IsRepaired, IsRead, Due, usage, not_built, too_long, read_fault, memory, is_repair, is_done, status_of, notes_of, ComesTo}
+use Rattle.memfix_engine.specs.Outcome.{IsRepaired, Due, usage, not_built, too_long, read_fault, memory, is_repair, is_done, status_of, ComesTo}
 use Rattle.memfix_engine.specs.Command.{Cut, IsStatusOf, Written, Finishes}
 
 -- a write that answers 6 in place of another status was cut

@@ -1,7 +1,7 @@
 -- Lines and columns.
 use Rattle.std.proofs.Common.{◌≡◌, ℕ, ◌-◌, ◌≤◌, not, Bool, List, length, arith, length-drop, subst, sym, ◌∙◌}
 use Rattle.std.specs.Prelude.{take_while, reverse}
-use Rattle.std.specs.List.{after_last, prefix_len, suffix_len}
+use Rattle.std.specs.List.{after_last, suffix_len}
 use Rattle.std.proofs.lemmas.List.{length-reverse}
 use Rattle.std.proofs.lemmas.List.Sums.{prefix_len-le-length}
 use Rattle.std.proofs.lemmas.List.Folds.{length-prefix_len}

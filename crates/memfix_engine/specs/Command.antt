@@ -9,7 +9,7 @@ use Rattle.memfix_engine.specs.declared.outcome.Outcome.{Outcome}
 use Rattle.memfix_engine.specs.declared.outcome.Outcome.TheVariants as outcome
 use Rattle.memfix_engine.specs.Reads.{IsBuilt}
 use Rattle.memfix_engine.specs.Refusal.{source_limit}
-use Rattle.memfix_engine.specs.Outcome.{IsRepaired, Due, status_of, notes_of}
+use Rattle.memfix_engine.specs.Outcome.{IsRepaired, status_of, notes_of}
 
 -- done: the repair of the source's bytes was appended
 pub record Repaired (words : List (String Global)) (left left' taken taken' : Option (List ℕ)) : Type 0 where

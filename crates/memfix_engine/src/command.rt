@@ -1,7 +1,7 @@
 //! The top call: from words and bytes to a status and bytes.
 ghost use Rattle.std.specs.Prelude.{◌≡◌, ◌≢◌, ◌≤◌, ◌⊎◌, ℕ, List, Some, true, false};
 ghost use Rattle.mf_io.specs.Faults.{Rose};
-ghost use Rattle.memfix_engine.specs.Outcome.{is_repair, IsUsage, IsNotBuilt, IsTooLong, IsReadFault, IsMemory, IsRepaired, Due, is_done, status_of, notes_of};
+ghost use Rattle.memfix_engine.specs.Outcome.{is_repair, IsUsage, IsNotBuilt, IsTooLong, IsReadFault, IsMemory, IsRepaired, Due, is_done};
 ghost use Rattle.memfix_engine.specs.Command.{Repaired, Said, Cut, IsStatus, IsStatusOf, Written, Finishes};
 
 use crate::outcome::{Outcome, outcome_of};
