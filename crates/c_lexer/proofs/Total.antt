@@ -1,5 +1,5 @@
 -- Every text has a reading: a list of tokens or a first fault.
-use Rattle.std.proofs.Common.{◌≡◌, ℕ, zero, suc, ◌+◌, ◌-◌, ◌<◌, ◌≤◌, Bool, true, List, [], ◌∷◌, Option, Some, None, length, take, drop, sym, refl, ◌∙◌, ⊎_elim, arith, length-drop}
+use Rattle.std.proofs.Common.{◌≡◌, ℕ, zero, suc, ◌+◌, ◌<◌, ◌≤◌, Bool, true, List, [], ◌∷◌, Option, Some, None, length, take, drop, refl, ⊎_elim, arith, length-drop}
 use Rattle.std.proofs.lemmas.Bool.{cases_lt}
 use Rattle.c_lexer.specs.declared.token.Kind.{Kind}
 use Rattle.c_lexer.specs.declared.piece.Class.{Class}
@@ -15,7 +15,7 @@ use Rattle.c_lexer.specs.declared.reading.Reading.{Reading}
 use Rattle.c_lexer.specs.Bytes.{class_of}
 use Rattle.c_lexer.specs.Words.{punctuator_kind}
 use Rattle.c_lexer.specs.Pieces.{next_of, Spells, none, plain, escape, IsQuoted, IsPunctuator, IsPiece, text_piece, character_piece, line_comment, include_line, block_comment, word_piece, number_piece}
-use Rattle.c_lexer.specs.Scan.{Scan, ends, goes_on, width, GoesOn, fresh_behind, last_reading, reading_from, Reads}
+use Rattle.c_lexer.specs.Scan.{Scan, ends, goes_on, width, fresh_behind, last_reading, reading_from, Reads}
 use Rattle.c_lexer.proofs.LocalPasses.{piece_some}
 
 record Spelled (quote : Quote) (xs : List ℕ) : Type 0 where
