@@ -10,5 +10,6 @@ pub mod LocalPiece
 pub mod Passes
 pub mod LocalPasses
 pub mod UpTo
+pub mod Total
 pub mod Answered
 mod Examples

@@ -67,7 +67,8 @@ pub fn lex(alloc: Global, bytes: &[u8]) -> Result<Tokens, LexRefusal>
 
     // The answer is that for a reading of the text, unless memory runs out.
     ensures read { IsAnswer bytes.now result }
-    // No text has another reading.
+    // Every text has a reading and no other one: one list of tokens or one first fault, and never both.
+    ensures some { (r : Reading) × Reads bytes.now r }
     ensures only { (r : Reading) → Reads bytes.now r → Gives result (answer_for (length bytes.now) r) }
 {
     let reading = scan(alloc, bytes)?;
