@@ -6,3 +6,4 @@ pub mod Plain
 pub mod Returns
 pub mod Courses
 pub mod Examples
+pub mod Marks
