@@ -7,3 +7,4 @@ pub mod Returns
 pub mod Courses
 pub mod Examples
 pub mod Marks
+pub mod Erased
