@@ -8,3 +8,4 @@ pub mod Courses
 pub mod Examples
 pub mod Marks
 pub mod Erased
+pub mod Skeletons
