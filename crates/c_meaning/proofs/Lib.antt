@@ -8,4 +8,6 @@ pub mod Courses
 pub mod Examples
 pub mod Marks
 pub mod Erased
+pub mod Opened
 pub mod Skeletons
+pub mod Blurred

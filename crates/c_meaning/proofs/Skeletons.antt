@@ -25,28 +25,20 @@ use Rattle.c_meaning.specs.declared.machine.Frame.{Frame}
 use Rattle.c_meaning.specs.Place.{Action, Spot, AtGap, AtAction, Nowhere, Close, Onward, To, Through, Lost, request_or_none, declarator, declarator_at, assignment, statement, returned, item_at, gap_at, spot_in, spot_of, entry_of, behind_action, after, brace_of, spot_or_brace, spot_in_fun, onward_path, after_in_fun}
 use Rattle.c_meaning.specs.Step.{here, onward}
 use Rattle.c_meaning.specs.Safe.{Safe, Same}
+use Rattle.c_meaning.proofs.Opened.{rebuilt_block, rebuilt_piece, rebuilt_item}
 use Rattle.c_meaning.proofs.Erased.{bare_spot, FreesApart, same_from_safe}
 
 abbrev bare : Maps
 bare = rebuilt (gap_layers emptied)
 
 block_out : (b : Block) → out-Block (bare.block b) ≡ (gap_layers emptied).block (in_block bare (out-Block b))
-block_out b =
-    ap (λ (c : Block). out-Block (bare.block c)) (sym (roll-out-Block b))
-    ∙ ap out-Block ((rebuilt_rebuilds (gap_layers emptied)).block (out-Block b))
-    ∙ out-roll-Block ((gap_layers emptied).block (in_block bare (out-Block b)))
+block_out b = rebuilt_block (gap_layers emptied) b
 
 piece_out : (p : Piece) → out-Piece (bare.piece p) ≡ (gap_layers emptied).piece (in_piece bare (out-Piece p))
-piece_out p =
-    ap (λ (q : Piece). out-Piece (bare.piece q)) (sym (roll-out-Piece p))
-    ∙ ap out-Piece ((rebuilt_rebuilds (gap_layers emptied)).piece (out-Piece p))
-    ∙ out-roll-Piece ((gap_layers emptied).piece (in_piece bare (out-Piece p)))
+piece_out p = rebuilt_piece (gap_layers emptied) p
 
 item_out : (i : Item) → out-Item (bare.item i) ≡ in_item bare (out-Item i)
-item_out i =
-    ap (λ (j : Item). out-Item (bare.item j)) (sym (roll-out-Item i))
-    ∙ ap out-Item ((rebuilt_rebuilds (gap_layers emptied)).item (out-Item i))
-    ∙ out-roll-Item (in_item bare (out-Item i))
+item_out i = rebuilt_item (gap_layers emptied) i
 
 items_out : (b : Block) → (out-Block (bare.block b)).items ≡ map bare.piece (out-Block b).items
 items_out b = ap (λ (c : Block-F Item Arm Block Piece). c.items) (block_out b)
