@@ -1,5 +1,5 @@
 -- Offsets change no run but the offset of its fault: evaluations, frees and actions of bare programs.
-use Rattle.std.proofs.Common.{◌≡◌, ℕ, zero, suc, ◌+◌, Bool, true, false, ℤ, pos, negsuc, List, [], ◌∷◌, ◌++◌, map, length, slice_get, unwrap_or, option_map, drop, Option, Some, None, Result, Ok, Err, refl, ap, sym, subst, ◌∙◌}
+use Rattle.std.proofs.Common.{◌≡◌, ℕ, Bool, true, false, ℤ, pos, negsuc, List, [], ◌∷◌, ◌++◌, map, length, slice_get, unwrap_or, option_map, drop, Option, Some, None, Result, Ok, Err, refl, ap, sym, subst, ◌∙◌}
 use Rattle.std.proofs.lemmas.Option.{slice_get-map}
 use Rattle.c_tree.specs.Alike.{bare_layer, bare_expr, bare_size, bare_right, bare_simple, bare_free, bare_struct, bare}
 use Rattle.c_tree.specs.declared.expr.Expr.{Expr, Expr-F, out-Expr, roll-Expr, map-Expr, out-roll-Expr, roll-out-Expr, fold-roll-Expr, ind-Expr}

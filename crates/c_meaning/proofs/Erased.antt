@@ -1,6 +1,6 @@
 -- Runs of two programs that differ in their frees alone go together and differ in the marks "freed"
 -- alone, until one of them meets a freed object or a fault in a free.
-use Rattle.std.proofs.Common.{◌≡◌, ℕ, zero, suc, ◌+◌, Bool, true, false, ℤ, pos, negsuc, List, [], ◌∷◌, ◌++◌, map, length, slice_get, slice_set, unwrap_or, option_map, drop, replicate, Option, Some, None, Result, Ok, Err, refl, ap, sym, subst, ◌∙◌}
+use Rattle.std.proofs.Common.{◌≡◌, ℕ, zero, suc, ◌+◌, Bool, true, false, ℤ, pos, negsuc, List, [], ◌∷◌, ◌++◌, map, length, slice_get, slice_set, unwrap_or, option_map, replicate, Option, Some, None, Result, Ok, Err, refl, ap, sym, subst, ◌∙◌}
 use Rattle.std.proofs.lemmas.List.{map-append, length-map}
 use Rattle.c_tree.specs.declared.expr.Expr.{Expr, out-Expr}
 use Rattle.c_tree.specs.declared.expr.Op.{Op}
@@ -22,13 +22,13 @@ use Rattle.c_meaning.specs.declared.machine.Kind.TheVariants.{UseAfterFree, Doub
 use Rattle.c_meaning.specs.declared.machine.Ending.{Ending}
 use Rattle.c_meaning.specs.declared.machine.Ending.TheVariants.{Running, Returned, Fault}
 use Rattle.c_meaning.specs.declared.machine.Machine.{Machine}
-use Rattle.c_meaning.specs.Eval.{Place, Slot, Cell, Flaw, ◌>>=◌, is_freed, eval, eval_all, place_of}
-use Rattle.c_meaning.specs.Machine.{start, start_value, altered, with_cell, stored, dead, buried, faulted}
+use Rattle.c_meaning.specs.Eval.{Place, Slot, Cell, Flaw, ◌>>=◌, is_freed, place_of}
+use Rattle.c_meaning.specs.Machine.{start, start_value, altered, with_cell, stored, dead, faulted}
 use Rattle.c_meaning.specs.Place.{Action, Unset, Store, Request, Print, Leave, Close, Spot, AtGap, AtAction, Nowhere}
 use Rattle.c_meaning.specs.Step.{freed, freed_result, freed_value, freed_once, freed_layer, offset_layer, while_running, all_freed, target_of, count_of, int_of, answered, born, granted, requested, fails_next, left, right_value, assigned, effect, here, onward, moved, outcome, at_spot, walked, counted, step, printed}
 use Rattle.c_meaning.specs.Safe.{run, AreBytes, Safe, Same, LooksLike, IsFault}
 use Rattle.c_meaning.proofs.Courses.{stays}
-use Rattle.c_meaning.proofs.Marks.{Agree, both, flawed, left_freed, right_freed, agree_then, agree_same, agree_itself, SameCells, eval_agrees, eval_all_agrees, place_agrees}
+use Rattle.c_meaning.proofs.Marks.{Agree, both, flawed, left_freed, right_freed, agree_same, SameCells, eval_agrees, eval_all_agrees, place_agrees}
 
 -- the second machine is the first but for the marks of its objects
 pub data DifferInMarks : Machine → Machine → Type 0 where

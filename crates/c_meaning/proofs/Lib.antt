@@ -11,3 +11,4 @@ pub mod Erased
 pub mod Opened
 pub mod Skeletons
 pub mod Blurred
+pub mod Alikes

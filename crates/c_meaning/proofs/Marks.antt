@@ -1,15 +1,14 @@
 -- Two machines that differ in the marks "freed" alone: they do the same, up to where one of them meets
 -- a freed object or a fault in a free.
-use Rattle.std.proofs.Common.{◌≡◌, ℕ, zero, suc, ◌+◌, Bool, true, false, ℤ, pos, negsuc, List, [], ◌∷◌, ◌++◌, map, length, slice_get, slice_set, unwrap_or, option_map, drop, Option, Some, None, Result, Ok, Err, refl, ap, sym, subst, ◌∙◌}
-use Rattle.std.proofs.lemmas.List.{map-append, length-map}
+use Rattle.std.proofs.Common.{◌≡◌, ℕ, Bool, true, false, ℤ, pos, List, [], ◌∷◌, map, length, slice_get, unwrap_or, Option, Result, Ok, Err, refl, ap, sym, subst, ◌∙◌}
 use Rattle.std.proofs.lemmas.Option.{slice_get-map}
 use Rattle.c_tree.specs.declared.expr.Expr.{Expr, Expr-F, out-Expr, roll-Expr, map-Expr, fold-roll-Expr, ind-Expr}
-use Rattle.c_tree.specs.declared.expr.Expr.TheOpen.{Const, Null, Var, Field, Deref, Index, Unary, Binary}
+use Rattle.c_tree.specs.declared.expr.Expr.TheOpen.{Const, Null, Var, Deref}
 use Rattle.c_meaning.specs.declared.machine.Value.{Value}
 use Rattle.c_meaning.specs.declared.machine.Value.TheVariants as value
 use Rattle.c_meaning.specs.declared.machine.Object.{Object}
 use Rattle.c_meaning.specs.declared.machine.Kind.TheVariants.{UseAfterFree}
-use Rattle.c_meaning.specs.Eval.{Place, Slot, Cell, Flaw, flaw, ◌>>=◌, slot_of, cells_of, is_freed, content_of, unless_freed, read, cell_within, cell_of, value_at, eval_layer, eval, eval_all, place_layer, place_of}
+use Rattle.c_meaning.specs.Eval.{Place, Slot, Cell, Flaw, ◌>>=◌, cells_of, is_freed, content_of, unless_freed, read, cell_within, cell_of, value_at, eval_layer, eval, eval_all, place_layer, place_of}
 
 -- two results that agree, or one of which is the use of a freed object
 pub data Agree {A : Type 0} (R : A → A → Type 0) : Result A Flaw → Result A Flaw → Type 0 where

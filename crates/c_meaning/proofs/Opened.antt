@@ -1,9 +1,9 @@
 -- A rebuilt block, piece or item, one level opened.
-use Rattle.std.proofs.Common.{◌≡◌, refl, ap, sym, ◌∙◌}
-use Rattle.c_tree.proofs.Rebuilds.{Maps, Layers, in_item, in_block, in_piece, rebuilt, rebuilt_rebuilds}
-use Rattle.c_tree.specs.declared.program.Block.{Block, Block-F, roll-Block, out-Block, out-roll-Block, roll-out-Block}
-use Rattle.c_tree.specs.declared.program.Piece.{Piece, Piece-F, roll-Piece, out-Piece, out-roll-Piece, roll-out-Piece}
-use Rattle.c_tree.specs.declared.program.Item.{Item, Item-F, roll-Item, out-Item, out-roll-Item, roll-out-Item}
+use Rattle.std.proofs.Common.{◌≡◌, ap, sym, ◌∙◌}
+use Rattle.c_tree.proofs.Rebuilds.{Layers, in_item, in_block, in_piece, rebuilt, rebuilt_rebuilds}
+use Rattle.c_tree.specs.declared.program.Block.{Block, out-Block, out-roll-Block, roll-out-Block}
+use Rattle.c_tree.specs.declared.program.Piece.{Piece, out-Piece, out-roll-Piece, roll-out-Piece}
+use Rattle.c_tree.specs.declared.program.Item.{Item, out-Item, out-roll-Item, roll-out-Item}
 
 pub rebuilt_block : (l : Layers) (b : Block) → out-Block ((rebuilt l).block b) ≡ l.block (in_block (rebuilt l) (out-Block b))
 rebuilt_block l b =

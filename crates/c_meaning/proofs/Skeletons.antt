@@ -1,16 +1,16 @@
 -- The places of a program and of its skeleton: the same but for the frees of the gaps.
-use Rattle.std.proofs.Common.{◌≡◌, ℕ, zero, suc, ◌+◌, Bool, true, false, ◌==◌, List, [], ◌∷◌, map, length, slice_get, Option, Some, None, option_map, refl, ap, sym, subst, ◌∙◌}
+use Rattle.std.proofs.Common.{◌≡◌, ℕ, zero, ◌+◌, Bool, true, false, ◌==◌, List, [], ◌∷◌, map, length, slice_get, Option, Some, None, option_map, refl, ap, sym, ◌∙◌}
 use Rattle.std.specs.Prelude.{if◌then◌else◌}
 use Rattle.std.proofs.lemmas.List.{length-map}
 use Rattle.std.proofs.lemmas.Option.{slice_get-map}
-use Rattle.c_tree.specs.Fill.{regapped_block, regapped_fun, emptied, skeleton, fill}
+use Rattle.c_tree.specs.Fill.{regapped_fun, emptied, skeleton, fill}
 use Rattle.c_tree.specs.declared.choice.Choice.{Choice}
-use Rattle.c_tree.proofs.Rebuilds.{Maps, Layers, in_item, in_block, in_piece, rebuilt, rebuilt_rebuilds}
+use Rattle.c_tree.proofs.Rebuilds.{Maps, in_item, in_block, in_piece, rebuilt}
 use Rattle.c_tree.proofs.Fills.{gap_layers, skeleton_fill}
-use Rattle.c_tree.specs.declared.program.Block.{Block, Block-F, roll-Block, out-Block, out-roll-Block, roll-out-Block}
-use Rattle.c_tree.specs.declared.program.Piece.{Piece, Piece-F, roll-Piece, out-Piece, out-roll-Piece, roll-out-Piece}
-use Rattle.c_tree.specs.declared.program.Item.{Item, Item-F, roll-Item, out-Item, out-roll-Item, roll-out-Item}
-use Rattle.c_tree.specs.declared.program.Item.TheOpen.{Declare, Assign, Do, Nest, If, While, For, Break, Continue, Return}
+use Rattle.c_tree.specs.declared.program.Block.{Block, Block-F, out-Block}
+use Rattle.c_tree.specs.declared.program.Piece.{Piece, Piece-F, out-Piece}
+use Rattle.c_tree.specs.declared.program.Item.{Item, Item-F, out-Item}
+use Rattle.c_tree.specs.declared.program.Item.TheOpen.{Declare, Assign, Do, Return}
 use Rattle.c_tree.specs.declared.program.Arm.{Arm}
 use Rattle.c_tree.specs.declared.program.Call.{Call}
 use Rattle.c_tree.specs.declared.program.Call.TheVariants as call
@@ -22,7 +22,7 @@ use Rattle.c_tree.specs.declared.program.FunDef.{FunDef}
 use Rattle.c_tree.specs.declared.program.Program.{Program}
 use Rattle.c_tree.specs.declared.expr.Expr.{Expr}
 use Rattle.c_meaning.specs.declared.machine.Frame.{Frame}
-use Rattle.c_meaning.specs.Place.{Action, Spot, AtGap, AtAction, Nowhere, Close, Onward, To, Through, Lost, request_or_none, declarator, declarator_at, assignment, statement, returned, item_at, gap_at, spot_in, spot_of, entry_of, behind_action, after, brace_of, spot_or_brace, spot_in_fun, onward_path, after_in_fun}
+use Rattle.c_meaning.specs.Place.{Spot, AtGap, AtAction, Nowhere, Close, Onward, To, Through, Lost, request_or_none, declarator, declarator_at, assignment, statement, returned, item_at, gap_at, spot_in, spot_of, entry_of, behind_action, after, brace_of, spot_or_brace, spot_in_fun, onward_path, after_in_fun}
 use Rattle.c_meaning.specs.Step.{here, onward}
 use Rattle.c_meaning.specs.Safe.{Safe, Same}
 use Rattle.c_meaning.proofs.Opened.{rebuilt_block, rebuilt_piece, rebuilt_item}
