@@ -4,12 +4,12 @@ use Rattle.std.specs.Prelude.{if◌then◌else◌}
 use Rattle.std.proofs.lemmas.List.{length-map}
 use Rattle.std.proofs.lemmas.Option.{slice_get-map}
 use Rattle.c_tree.specs.Alike.{bare_expr, bare_call, bare_right, bare_declr, bare_simple, bare_free, bare_item, bare_var, bare_fun, bare, IsAlike}
-use Rattle.c_tree.specs.Fill.{fill}
+use Rattle.c_tree.specs.Fill.{skeleton, fill}
 use Rattle.c_tree.specs.declared.choice.Choice.{Choice}
 use Rattle.c_tree.proofs.Rebuilds.{Maps, in_item, rebuilt}
-use Rattle.c_tree.proofs.Fills.{map_joined}
+use Rattle.c_tree.proofs.Fills.{map_joined, skeleton_fill}
 use Rattle.c_tree.proofs.AlikeBlock.{bare_layers}
-use Rattle.c_tree.proofs.Alikes.{bare_variable}
+use Rattle.c_tree.proofs.Alikes.{bare_variable, bare_skeleton, alike_bare, alike_skeletons, alike_sym}
 use Rattle.c_tree.specs.declared.expr.Expr.{Expr}
 use Rattle.c_tree.specs.declared.expr.Expr.TheVariants as expr
 use Rattle.c_tree.specs.declared.expr.Op.TheVariants.{Put}
@@ -41,7 +41,7 @@ use Rattle.c_meaning.specs.Step.{here, onward, moved, effect, outcome, all_freed
 use Rattle.c_meaning.specs.Safe.{run, Safe, Same, IsFault}
 use Rattle.c_meaning.proofs.Opened.{rebuilt_block, rebuilt_piece, rebuilt_item}
 use Rattle.c_meaning.proofs.Blurred.{blurred, blurred_ending, bare_action, while_blurred, frees_blurred, outcome_blurred, effect_blurred}
-use Rattle.c_meaning.proofs.Skeletons.{same_fill}
+use Rattle.c_meaning.proofs.Skeletons.{same_skeleton}
 
 abbrev all_bare : Maps
 all_bare = rebuilt bare_layers
@@ -289,6 +289,12 @@ same_alike p p' q q' d e same = record {
       };
 }
 
--- what is alike to a safe fill of a program is safe and does the same as the program
-pub same_repair : (p q : Program) (s : Choice) → IsAlike q (fill p s) → Safe (fill p s) → Same p q
-same_repair p q s e safe = same_alike p p (fill p s) q refl (sym e) (same_fill p s safe)
+-- a safe program does the same as each program that differs from it in frees and offsets alone
+pub same_outline : (p q : Program) → IsAlike (skeleton p) (skeleton q) → Safe q → Same p q
+same_outline p q e safe =
+    let outlines : skeleton (bare p) ≡ skeleton (bare q) = sym (bare_skeleton p) ∙ e ∙ bare_skeleton q in
+    same_alike (bare p) p (bare q) q (alike_bare p) (alike_bare q) (same_skeleton (bare p) (bare q) outlines (safe_alike q (bare q) (alike_sym (bare q) q (alike_bare q)) safe))
+
+-- a safe program that is alike to a fill of p does the same as p
+pub same_repair : (p q : Program) (s : Choice) → IsAlike q (fill p s) → Safe q → Same p q
+same_repair p q s e = same_outline p q (sym (alike_skeletons q (fill p s) e ∙ ap bare (skeleton_fill p s)))
