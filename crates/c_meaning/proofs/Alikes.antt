@@ -40,7 +40,7 @@ use Rattle.c_meaning.specs.Place.{Action, Spot, AtGap, AtAction, Nowhere, Close,
 use Rattle.c_meaning.specs.Step.{here, onward, moved, effect, outcome, all_freed, at_spot, walked, counted, step}
 use Rattle.c_meaning.specs.Safe.{run, Safe, Same, IsFault}
 use Rattle.c_meaning.proofs.Opened.{rebuilt_block, rebuilt_piece, rebuilt_item}
-use Rattle.c_meaning.proofs.Blurred.{blurred, blurred_ending, bare_action, while_blurred, frees_blurred, outcome_blurred, effect_blurred}
+use Rattle.c_meaning.proofs.Bare.{bare_machine, bare_ending, bare_action, while_bare, frees_bare, outcome_bare, effect_bare}
 use Rattle.c_meaning.proofs.Skeletons.{same_skeleton}
 
 abbrev all_bare : Maps
@@ -192,36 +192,36 @@ onward_bare p (f ∷ fs) = ap (λ (path : List ℕ). record f { path = path } �
 
 -- runs
 
-moved_bare : (p : Program) (m : Machine) → moved (bare p) (blurred m) ≡ blurred (moved p m)
-moved_bare p m = ap (λ (fs : List Frame). record (blurred m) { rest = fs }) (onward_bare p m.rest)
+moved_bare : (p : Program) (m : Machine) → moved (bare p) (bare_machine m) ≡ bare_machine (moved p m)
+moved_bare p m = ap (λ (fs : List Frame). record (bare_machine m) { rest = fs }) (onward_bare p m.rest)
 
-spot_bare : (p : Program) (next other : Machine → Machine) (s : Spot) (m : Machine) → ((k : Machine) → other (blurred k) ≡ blurred (next k)) →
-    at_spot (bare p) other (bare_spot s) (blurred m) ≡ blurred (at_spot p next s m)
+spot_bare : (p : Program) (next other : Machine → Machine) (s : Spot) (m : Machine) → ((k : Machine) → other (bare_machine k) ≡ bare_machine (next k)) →
+    at_spot (bare p) other (bare_spot s) (bare_machine m) ≡ bare_machine (at_spot p next s m)
 spot_bare p next other (AtGap fs) m h =
-    ap (λ (k : Machine). Rattle.c_meaning.specs.Step.while_running (λ l. other (moved (bare p) l)) k.ending k) (frees_blurred fs m)
-    ∙ while_blurred (λ l. next (moved p l)) (λ l. other (moved (bare p) l)) (all_freed fs m) (λ l. ap other (moved_bare p l) ∙ h (moved p l))
+    ap (λ (k : Machine). Rattle.c_meaning.specs.Step.while_running (λ l. other (moved (bare p) l)) k.ending k) (frees_bare fs m)
+    ∙ while_bare (λ l. next (moved p l)) (λ l. other (moved (bare p) l)) (all_freed fs m) (λ l. ap other (moved_bare p l) ∙ h (moved p l))
 spot_bare p next other (AtAction a) m h =
-    ap (λ (k : Machine). outcome (blurred m) (effect (bare p) (bare_action a) k)) (moved_bare p m)
-    ∙ ap (outcome (blurred m)) (effect_blurred p a (moved p m))
-    ∙ outcome_blurred m (effect p a (moved p m))
+    ap (λ (k : Machine). outcome (bare_machine m) (effect (bare p) (bare_action a) k)) (moved_bare p m)
+    ∙ ap (outcome (bare_machine m)) (effect_bare p a (moved p m))
+    ∙ outcome_bare m (effect p a (moved p m))
 spot_bare p next other Nowhere m h = refl
 
-walked_bare : (p : Program) (j : ℕ) (m : Machine) → walked (bare p) j (blurred m) ≡ blurred (walked p j m)
+walked_bare : (p : Program) (j : ℕ) (m : Machine) → walked (bare p) j (bare_machine m) ≡ bare_machine (walked p j m)
 walked_bare p zero m = refl
 walked_bare p (suc j) m =
-    ap (λ (s : Spot). at_spot (bare p) (walked (bare p) j) s (blurred m)) (here_bare p m.rest)
+    ap (λ (s : Spot). at_spot (bare p) (walked (bare p) j) s (bare_machine m)) (here_bare p m.rest)
     ∙ spot_bare p (walked p j) (walked (bare p) j) (here p m.rest) m (walked_bare p j)
 
-step_bare : (p : Program) (m : Machine) → step (bare p) (blurred m) ≡ blurred (step p m)
-step_bare p m = while_blurred (λ k. walked p (p.gaps + 1) (counted k)) (λ k. walked (bare p) (p.gaps + 1) (counted k)) m (λ k. walked_bare p (p.gaps + 1) (counted k))
+step_bare : (p : Program) (m : Machine) → step (bare p) (bare_machine m) ≡ bare_machine (step p m)
+step_bare p m = while_bare (λ k. walked p (p.gaps + 1) (counted k)) (λ k. walked (bare p) (p.gaps + 1) (counted k)) m (λ k. walked_bare p (p.gaps + 1) (counted k))
 
 -- a bare program has the same runs without offsets
-pub run_bare : (p : Program) (input : List ℕ) (fails : List Bool) (n : ℕ) → run (bare p) input fails n ≡ blurred (run p input fails n)
+pub run_bare : (p : Program) (input : List ℕ) (fails : List Bool) (n : ℕ) → run (bare p) input fails n ≡ bare_machine (run p input fails n)
 run_bare p input fails zero = ap (λ (vs : List Value). record (start p input fails) { slots = vs }) (map_joined (λ (v : VarDef). start_value v.ty v.home) bare_var (λ (v : VarDef). start_value v.ty v.home) (λ v. refl) p.vars)
 run_bare p input fails (suc n) = ap (step (bare p)) (run_bare p input fails n) ∙ step_bare p (run p input fails n)
 
 -- alike programs have the same runs but for the offset of a fault
-pub runs_alike : (p q : Program) → IsAlike p q → (input : List ℕ) (fails : List Bool) (n : ℕ) → blurred (run p input fails n) ≡ blurred (run q input fails n)
+pub runs_alike : (p q : Program) → IsAlike p q → (input : List ℕ) (fails : List Bool) (n : ℕ) → bare_machine (run p input fails n) ≡ bare_machine (run q input fails n)
 runs_alike p q e input fails n = sym (run_bare p input fails n) ∙ ap (λ (x : Program). run x input fails n) e ∙ run_bare q input fails n
 
 -- the fault of an ending that is one without its offset
@@ -229,21 +229,21 @@ record HasFault (e : Ending) (k : Kind) (by : Bool) : Type 0 where
   pub at : ℕ
   pub is : e ≡ Fault k at by
 
-fault_of : (e : Ending) (k : Kind) (at : ℕ) (by : Bool) → blurred_ending e ≡ Fault k at by → HasFault e k by
+fault_of : (e : Ending) (k : Kind) (at : ℕ) (by : Bool) → bare_ending e ≡ Fault k at by → HasFault e k by
 fault_of Running k at by h = absurd cc
 fault_of (Returned n) k at by h = absurd cc
 fault_of (Fault c from b) k at by h = record { at = from; is = let e : c ≡ k = cc in let f : b ≡ by = cc in cc }
 
-return_of : (e : Ending) (n : ℤ) → blurred_ending e ≡ Returned n → e ≡ Returned n
+return_of : (e : Ending) (n : ℤ) → bare_ending e ≡ Returned n → e ≡ Returned n
 return_of Running n h = absurd cc
 return_of (Returned m) n h = h
 return_of (Fault c at b) n h = absurd cc
 
-endings_alike : (p q : Program) → IsAlike p q → (input : List ℕ) (fails : List Bool) (n : ℕ) → blurred_ending (run p input fails n).ending ≡ blurred_ending (run q input fails n).ending
+endings_alike : (p q : Program) → IsAlike p q → (input : List ℕ) (fails : List Bool) (n : ℕ) → bare_ending (run p input fails n).ending ≡ bare_ending (run q input fails n).ending
 endings_alike p q e input fails n = ap (λ (m : Machine). m.ending) (runs_alike p q e input fails n)
 
 other_fault : (p q : Program) → IsAlike p q → (input : List ℕ) (fails : List Bool) (n : ℕ) (k : Kind) (at : ℕ) (by : Bool) → (run q input fails n).ending ≡ Fault k at by → HasFault (run p input fails n).ending k by
-other_fault p q e input fails n k at by h = fault_of (run p input fails n).ending k 0 by (endings_alike p q e input fails n ∙ ap blurred_ending h)
+other_fault p q e input fails n k at by h = fault_of (run p input fails n).ending k 0 by (endings_alike p q e input fails n ∙ ap bare_ending h)
 
 -- a program that is alike to a safe one is safe
 pub safe_alike : (p q : Program) → IsAlike p q → Safe p → Safe q
@@ -253,10 +253,10 @@ safe_alike p q e safe = record {
   no_fault_by_free = λ input fails n bytes k at h. let f = other_fault p q e input fails n k at true h in safe.no_fault_by_free input fails n bytes k f.at f.is;
   all_freed = λ input fails n bytes answer h.
       subst (λ (os : List Object). All (λ o. IsTrue o.freed) os) (ap (λ (m : Machine). m.objects) (runs_alike p q e input fails n))
-      (safe.all_freed input fails n bytes answer (return_of (run p input fails n).ending answer (endings_alike p q e input fails n ∙ ap blurred_ending h)));
+      (safe.all_freed input fails n bytes answer (return_of (run p input fails n).ending answer (endings_alike p q e input fails n ∙ ap bare_ending h)));
 }
 
-fault_same : (e f : Ending) → blurred_ending e ≡ blurred_ending f → IsFault e → IsFault f
+fault_same : (e f : Ending) → bare_ending e ≡ bare_ending f → IsFault e → IsFault f
 fault_same (Fault k at by) Running h i = absurd cc
 fault_same (Fault k at by) (Returned n) h i = absurd cc
 fault_same (Fault k at by) (Fault c from b) h i = tt
@@ -264,7 +264,7 @@ fault_same Running f h i = absurd i
 fault_same (Returned n) f h i = absurd i
 
 -- where there is no fault, no offset is lost
-sound_same : (e f : Ending) → blurred_ending e ≡ blurred_ending f → (IsFault e → ⊥) → e ≡ f
+sound_same : (e f : Ending) → bare_ending e ≡ bare_ending f → (IsFault e → ⊥) → e ≡ f
 sound_same (Fault k at by) f h i = absurd (i tt)
 sound_same Running Running h i = refl
 sound_same Running (Returned n) h i = absurd cc

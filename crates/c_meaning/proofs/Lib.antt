@@ -10,5 +10,5 @@ pub mod Marks
 pub mod Erased
 pub mod Opened
 pub mod Skeletons
-pub mod Blurred
+pub mod Bare
 pub mod Alikes
