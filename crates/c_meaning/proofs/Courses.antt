@@ -5,7 +5,6 @@ use Rattle.std.proofs.lemmas.List.{length-map}
 use Rattle.c_tree.specs.declared.expr.Expr.TheVariants as expr
 use Rattle.c_tree.specs.declared.program.Free.{Free}
 use Rattle.c_tree.specs.declared.program.Program.{Program}
-use Rattle.c_meaning.specs.declared.machine.Value.{Value}
 use Rattle.c_meaning.specs.declared.machine.Kind.{Kind}
 use Rattle.c_meaning.specs.declared.machine.Kind.TheVariants as kind
 use Rattle.c_meaning.specs.declared.machine.Ending.{Ending}
@@ -15,11 +14,11 @@ use Rattle.c_meaning.specs.Machine.{start, start_value}
 use Rattle.c_meaning.specs.Frees.{AllVars}
 use Rattle.c_meaning.specs.Place.{Action, Leave, after_in_fun}
 use Rattle.c_meaning.specs.Step.{step, walked, counted, while_running}
-use Rattle.c_meaning.specs.Safe.{run, Safe, Same, LooksLike, IsFault}
+use Rattle.c_meaning.specs.Safe.{run, Safe}
 use Rattle.c_meaning.proofs.Flat.{Stands}
 use Rattle.c_meaning.proofs.Held.{objects_of}
-use Rattle.c_meaning.proofs.Plain.{IsPlain, At, Went, on, stopped, IsReadFault, went_on, same_step}
-use Rattle.c_meaning.proofs.Returns.{plain_return, freeing_return, all_dead}
+use Rattle.c_meaning.proofs.Plain.{IsPlain, At, Went, on, stopped, IsReadFault, went_on}
+use Rattle.c_meaning.proofs.Returns.{freeing_return, all_dead}
 
 -- main from item i on, where n variables are declared: plain items behind empty gaps, which declare
 -- the variables below l, and then the return of k behind a gap with those frees
@@ -103,84 +102,4 @@ safe_course p g gaps main fits vars course = record {
   no_double_free = λ input fails n bytes at by h. (stage_kind (stage_of_run p g gaps main fits vars course input fails n) kind.DoubleFree at by h).0;
   no_fault_by_free = λ input fails n bytes c at h. let e = (stage_kind (stage_of_run p g gaps main fits vars course input fails n) c at true h).1 in cc;
   all_freed = λ input fails n bytes answer h. stage_returned (stage_of_run p g gaps main fits vars course input fails n) answer h;
-}
-
--- two programs with the same plain items, and a return of k behind each; the frees of the second
--- program's last gap are those
-pub data Together (p q : Program) (fs : List Free) (k : ℤ) (l : ℕ) : (i n : ℕ) → Type 0 where
-  both_end : {i : ℕ} (k_at there_at : ℕ) → Stands p i [] (Leave (Some (expr.Const k k_at))) → Stands q i fs (Leave (Some (expr.Const k there_at))) → Together p q fs k l i l
-  both_go : {i n m : ℕ} {a : Action} → Stands p i [] a → Stands q i [] a → after_in_fun (slice_get p.funs 0) (i ∷ 0 ∷ []) ≡ (i + 1) ∷ [] → after_in_fun (slice_get q.funs 0) (i ∷ 0 ∷ []) ≡ (i + 1) ∷ []
-      → IsPlain n a m → Together p q fs k l (i + 1) m → Together p q fs k l i n
-
-pub course_of : {p q : Program} {fs : List Free} {k : ℤ} {l i n : ℕ} → Together p q fs k l i n → Course q fs k l i n
-course_of (both_end k_at there_at stands there) = ends there_at there
-course_of (both_go stands there onward behind plain rest) = goes there behind plain (course_of rest)
-
--- the two machines after s steps: one machine up to the return, and behind it the same but for the
--- marks "freed"
-pub data Pair (p q : Program) (fs : List Free) (k : ℤ) (l w s : ℕ) (m n : Machine) : Type 0 where
-  one : {c : ℕ} → Together p q fs k l s c → At s c w m → m ≡ n → Pair p q fs k l w s m n
-  two : m.ending ≡ Returned k → n.ending ≡ Returned k → m.output ≡ n.output → m.input ≡ n.input → Pair p q fs k l w s m n
-  fault : (c : Kind) (at : ℕ) → m.ending ≡ Fault c at false → m ≡ n → Pair p q fs k l w s m n
-
-went_pair : {p q : Program} {fs : List Free} {k : ℤ} {l w s c : ℕ} {m n : Machine} → Together p q fs k l s c → Went s c w m → m ≡ n → Pair p q fs k l w s m n
-went_pair together (on at) e = one together at e
-went_pair together (stopped c at benign h) e = fault c at h e
-
-from_one : {fs : List Free} {k : ℤ} {l w s c : ℕ} {m : Machine} (p q : Program) (g h : ℕ) → p.gaps ≡ g + 1 → q.gaps ≡ h + 1 → l ≤ w → AllVars 0 l fs →
-    Together p q fs k l s c → At s c w m → Pair p q fs k l w (s + 1) (step p m) (step q m)
-from_one p q g h gaps others fits vars (both_end k_at there_at stands there) at =
-    let d = plain_return p g _ k_at gaps stands at in
-    let e = freeing_return q h _ _ there_at others there vars at in
-    two (ap (λ (x : Machine). x.ending) d) (ap (λ (x : Machine). x.ending) e)
-    (ap (λ (x : Machine). x.output) d ∙ sym (ap (λ (x : Machine). x.output) e))
-    (ap (λ (x : Machine). x.input) d ∙ sym (ap (λ (x : Machine). x.input) e))
-from_one p q g h gaps others fits vars (both_go stands there onward behind plain rest) at =
-    let order = Course-order (course_of rest) in
-    went_pair rest (went_on p g gaps stands onward plain (omega arith) at) (same_step p q g h gaps others stands there onward behind plain at)
-
-pub pair_step : {fs : List Free} {k : ℤ} {l w s : ℕ} {m n : Machine} (p q : Program) (g h : ℕ) → p.gaps ≡ g + 1 → q.gaps ≡ h + 1 → l ≤ w → AllVars 0 l fs →
-    Pair p q fs k l w s m n → Pair p q fs k l w (s + 1) (step p m) (step q n)
-pair_step {fs} {k} {l} {w} {s} {m} {n} p q g h gaps others fits vars (one together at e) =
-    subst (λ (x : Machine). Pair p q fs k l w (s + 1) (step p m) (step q x)) e (from_one p q g h gaps others fits vars together at)
-pair_step {fs} {k} {l} {w} {s} {m} {n} p q g h gaps others fits vars (two a b c d) =
-    subst (λ (x : Machine). Pair p q fs k l w (s + 1) x (step q n)) (sym (stays p m (Returned k) a (λ e. cc)))
-    (subst (λ (x : Machine). Pair p q fs k l w (s + 1) m x) (sym (stays q n (Returned k) b (λ e. cc))) (two a b c d))
-pair_step {fs} {k} {l} {w} {s} {m} {n} p q g h gaps others fits vars (fault c at a e) =
-    let b : n.ending ≡ Fault c at false = ap (λ (x : Machine). x.ending) (sym e) ∙ a in
-    subst (λ (x : Machine). Pair p q fs k l w (s + 1) x (step q n)) (sym (stays p m (Fault c at false) a (λ f. cc)))
-    (subst (λ (x : Machine). Pair p q fs k l w (s + 1) m x) (sym (stays q n (Fault c at false) b (λ f. cc))) (fault c at a e))
-
-abbrev pub start_values : Program → List Value
-start_values p = map (λ v. start_value v.ty v.home) p.vars
-
-same_start : (p q : Program) (input : List ℕ) (fails : List Bool) → p.main ≡ 0 → q.main ≡ 0 → start_values p ≡ start_values q → start p input fails ≡ start q input fails
-same_start p q input fails a b c =
-    ap (λ (f : ℕ). record (start p input fails) { rest = record { fun = f; path = 0 ∷ []; target = None } ∷ [] }) (a ∙ sym b)
-    ∙ ap (λ (vs : List Value). record (start q input fails) { slots = vs }) c
-
-pub pair_of_runs : {fs : List Free} {k : ℤ} {l : ℕ} (p q : Program) (g h : ℕ) → p.gaps ≡ g + 1 → q.gaps ≡ h + 1 → p.main ≡ 0 → q.main ≡ 0 → start_values p ≡ start_values q →
-    l ≤ length p.vars → AllVars 0 l fs → Together p q fs k l 0 0 →
-    (input : List ℕ) (fails : List Bool) (n : ℕ) → Pair p q fs k l (length p.vars) n (run p input fails n) (run q input fails n)
-pair_of_runs p q g h gaps others main there values fits vars together input fails zero = one together (at_start p input fails main) (same_start p q input fails main there values)
-pair_of_runs {fs} {k} {l} p q g h gaps others main there values fits vars together input fails (suc n) =
-    let e : n + 1 ≡ suc n = omega arith in
-    subst (λ (s : ℕ). Pair p q fs k l (length p.vars) s (run p input fails (suc n)) (run q input fails (suc n))) e
-    (pair_step p q g h gaps others fits vars (pair_of_runs p q g h gaps others main there values fits vars together input fails n))
-
-pair_fault : {p q : Program} {fs : List Free} {k : ℤ} {l w s : ℕ} {m n : Machine} → Pair p q fs k l w s m n → (IsFault m.ending → ⊥) → IsFault n.ending → ⊥
-pair_fault (one together at e) apart h = apart (subst (λ (x : Machine). IsFault x.ending) (sym e) h)
-pair_fault (two a b c d) apart h = subst IsFault b h
-pair_fault (fault c at a e) apart h = apart (subst (λ (x : Machine). IsFault x.ending) (sym e) h)
-
-pair_looks : {p q : Program} {fs : List Free} {k : ℤ} {l w s : ℕ} {m n : Machine} → Pair p q fs k l w s m n → LooksLike m n
-pair_looks (one together at e) = record { ending = ap (λ (x : Machine). x.ending) e; output = ap (λ (x : Machine). x.output) e; input = ap (λ (x : Machine). x.input) e }
-pair_looks (two a b c d) = record { ending = a ∙ sym b; output = c; input = d }
-pair_looks (fault c at a e) = record { ending = ap (λ (x : Machine). x.ending) e; output = ap (λ (x : Machine). x.output) e; input = ap (λ (x : Machine). x.input) e }
-
-pub same_together : {fs : List Free} {k : ℤ} {l : ℕ} (p q : Program) (g h : ℕ) → p.gaps ≡ g + 1 → q.gaps ≡ h + 1 → p.main ≡ 0 → q.main ≡ 0 → start_values p ≡ start_values q →
-    l ≤ length p.vars → AllVars 0 l fs → Together p q fs k l 0 0 → Same p q
-same_together p q g h gaps others main there values fits vars together = record {
-  no_fault = λ input fails n bytes. pair_fault (pair_of_runs p q g h gaps others main there values fits vars together input fails n);
-  alike = λ input fails n bytes apart. pair_looks (pair_of_runs p q g h gaps others main there values fits vars together input fails n);
 }

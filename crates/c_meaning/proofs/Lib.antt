@@ -6,3 +6,9 @@ pub mod Plain
 pub mod Returns
 pub mod Courses
 pub mod Examples
+pub mod Marks
+pub mod Erased
+pub mod Opened
+pub mod Skeletons
+pub mod Bare
+pub mod Alikes

@@ -53,12 +53,6 @@ pub data Went (i n w : ℕ) (m : Machine) : Type 0 where
   on : At i n w m → Went i n w m
   stopped : (k : Kind) (at : ℕ) → IsReadFault k → m.ending ≡ Fault k at false → Went i n w m
 
--- the effect of such an action rests on the machine alone
-pub same_effect : {n : ℕ} {a : Action} {l : ℕ} (p q : Program) (m : Machine) → IsPlain n a l → effect p a m ≡ effect q a m
-same_effect p q m (declares at) = refl
-same_effect p q m (stores x at star k k_at equals h) = refl
-same_effect p q m (shows text x at star h) = refl
-
 at_running : (i w : ℕ) (held : List (Option Value)) (later : List Value) (input : List ℕ) (fails : List Bool) (output : List ℕ) (steps : ℕ) → length held + length later ≡ w →
     At i (length held) w (running (i ∷ []) (slots_of 0 held ++ later) (objects_of held) input fails output steps)
 at_running i w held later input fails output steps h = record { held = held; later = later; count = refl; wide = h; is = refl }
@@ -179,13 +173,3 @@ went_on {i} {n} {l} {w} {a} {m} p g gaps stands onward plain fits at =
     let wide : length at.held + length at.later ≡ w = at.wide in
     subst (λ (k : Machine). Went (i + 1) l w k) (sym (plain_step p g gaps stands onward at))
     (acted p (i + 1) w at.held at.later m.input m.fails m.output (m.steps + 1) (running (i ∷ 0 ∷ []) (slots_of 0 at.held ++ at.later) (objects_of at.held) m.input m.fails m.output (m.steps + 1)) plain at.count fits wide)
-
--- two programs with one plain item there take the same step
-pub same_step : {i n l w : ℕ} {a : Action} {m : Machine} (p q : Program) (g h : ℕ) → p.gaps ≡ g + 1 → q.gaps ≡ h + 1 → Stands p i [] a → Stands q i [] a →
-    after_in_fun (slice_get p.funs 0) (i ∷ 0 ∷ []) ≡ (i + 1) ∷ [] → after_in_fun (slice_get q.funs 0) (i ∷ 0 ∷ []) ≡ (i + 1) ∷ [] →
-    IsPlain n a l → At i n w m → step p m ≡ step q m
-same_step {i} {n} {l} {w} {a} {m} p q g h gaps others stands there onward behind plain at =
-    plain_step p g gaps stands onward at
-    ∙ ap (outcome (running (i ∷ 0 ∷ []) (slots_of 0 at.held ++ at.later) (objects_of at.held) m.input m.fails m.output (m.steps + 1)))
-    (same_effect p q (running ((i + 1) ∷ []) (slots_of 0 at.held ++ at.later) (objects_of at.held) m.input m.fails m.output (m.steps + 1)) plain)
-    ∙ sym (plain_step q h others there behind at)

@@ -23,7 +23,7 @@ use Rattle.c_meaning.proofs.Plain.{At}
 pub freed_var : (x at start end : ℕ) (m : Machine) → freed (record { expr = expr.Var x at; start = start; end = end }) m ≡ freed_value start at (slot_of m.slots x) m
 freed_var x at start end m = ap (λ (l : Expr-F Expr). freed_result start (offset_layer l) (freed_layer m.slots m.objects (expr.Var x at) l) m) (expr.outs-Var x at)
 
-AllVars-order : {x n : ℕ} {fs : List Free} → AllVars x n fs → x ≤ n
+pub AllVars-order : {x n : ℕ} {fs : List Free} → AllVars x n fs → x ≤ n
 AllVars-order none = omega arith
 AllVars-order (more at start end rest) = let h = AllVars-order rest in omega arith
 
@@ -109,12 +109,7 @@ return_step {i} {n} {w} {m} p g fs k k_at after gaps stands at frees =
     ∙ ap (λ (r : Result Value Flaw). outcome (running (i ∷ 0 ∷ []) (slots_of 0 at.held ++ at.later) after m.input m.fails m.output (m.steps + 1)) (r >>= λ v. Ok (left v c.rest c)))
     (eval_const c.slots c.objects k k_at)
 
--- a return that frees nothing before, and one that frees all variables
-
-pub plain_return : {i n w : ℕ} {m : Machine} (p : Program) (g : ℕ) (k : ℤ) (k_at : ℕ) → p.gaps ≡ g + 1 → Stands p i [] (Leave (Some (expr.Const k k_at))) → (at : At i n w m) →
-    step p m ≡ returned k (slots_of 0 at.held ++ at.later) (objects_of at.held) m.input m.fails m.output (m.steps + 1)
-plain_return p g k k_at gaps stands at = return_step p g [] k k_at (objects_of at.held) gaps stands at refl
-
+-- a return that frees all variables before
 pub freeing_return : {i n w : ℕ} {m : Machine} (p : Program) (g : ℕ) (fs : List Free) (k : ℤ) (k_at : ℕ) → p.gaps ≡ g + 1 → Stands p i fs (Leave (Some (expr.Const k k_at))) → AllVars 0 n fs → (at : At i n w m) →
     step p m ≡ returned k (slots_of 0 at.held ++ at.later) (map dead (objects_of at.held)) m.input m.fails m.output (m.steps + 1)
 freeing_return {i} {n} {w} {m} p g fs k k_at gaps stands vars at =

@@ -1,6 +1,6 @@
 -- The program of a straight text is safe with the frees of all variables before its return, and does
 -- the same as without frees.
-use Rattle.std.proofs.Common.{◌≡◌, ℕ, suc, ◌+◌, ◌≤◌, ℤ, List, [], ◌∷◌, ◌++◌, map, length, slice_get, Option, Some, None, refl, ap, sym, subst, ◌∙◌, arith, append_assoc, length-append}
+use Rattle.std.proofs.Common.{◌≡◌, ℕ, zero, suc, ◌+◌, ◌≤◌, ℤ, List, [], ◌∷◌, ◌++◌, map, length, slice_get, Option, Some, None, refl, ap, sym, subst, ◌∙◌, arith, append_assoc, append-nil, length-append}
 use Rattle.std.proofs.lemmas.List.{map-append}
 use Rattle.c_tree.specs.declared.expr.Expr.TheVariants as expr
 use Rattle.c_tree.specs.declared.program.Block.{Block, Block-F, out-Block, roll-Block, out-roll-Block}
@@ -26,7 +26,16 @@ use Rattle.c_meaning.proofs.Flat.{Stands}
 use Rattle.c_meaning.proofs.Held.{get_seam}
 use Rattle.c_meaning.proofs.Items.{IsOneAction, stands_at, onward_at}
 use Rattle.c_meaning.proofs.Plain.{IsPlain, store_of}
-use Rattle.c_meaning.proofs.Courses.{Together, both_end, both_go, course_of, safe_course, same_together}
+use Rattle.c_meaning.proofs.Returns.{AllVars-order}
+use Rattle.c_meaning.proofs.Courses.{Course, ends, goes, safe_course}
+use Rattle.c_meaning.proofs.Alikes.{same_repair}
+use Rattle.c_tree.specs.Alike.{bare_free}
+use Rattle.c_tree.specs.Fill.{free_of}
+use Rattle.c_tree.proofs.Alikes.{bare_variable}
+use Rattle.c_tree.specs.declared.expr.Expr.{Expr}
+use Rattle.std.specs.List.{range_with_len}
+use Rattle.memfix_engine.specs.Repair.{put_of, choice_of}
+use Rattle.memfix_engine.proofs.EditAlike.{alike_straight}
 use Rattle.memfix_engine.specs.declared.draft.Draft.{Draft}
 use Rattle.memfix_engine.specs.declared.reading.Reading.{Reading}
 use Rattle.memfix_engine.specs.Reading.{declared, stored, shown, item_piece, gap_of, return_of, result_of, body_of, main_of, whole_of}
@@ -109,26 +118,15 @@ stands_return d r i h =
     (stands_at (whole_of d r) (main_of d (body_of d r)) i (item_piece (gap_of r) (return_of d) d.return_at d.return_end) (layer.Return (Some (right.Plain (expr.Const d.number d.number_at))) d.return_at) (Leave (Some (expr.Const d.number d.number_at))) refl
     (return_behind d r i h) (piece_layer (gap_of r) (return_of d) d.return_at d.return_end _ (item.outs-Return _ _)) (record { spot = λ inner. refl; entry = λ k. refl }))
 
-append_nil : {A : Type 0} (xs : List A) → xs ++ [] ≡ xs
-append_nil [] = refl
-append_nil (x ∷ xs) = ap (λ (ys : List _). x ∷ ys) (append_nil xs)
-
--- the two programs from an item on
-together : {i n l : ℕ} {ps : List Piece} (d d' : Draft) (r : Reading) (fs : List Free) (front : List Piece) → d'.number ≡ d.number → r.frees ≡ [] →
-    Straight i n ps l → r.pieces ≡ front ++ ps → length front ≡ i → Together (whole_of d r) (whole_of d' (record r { frees = fs })) fs d.number l i n
-together {i} d d' r fs front number plain none e h =
-    let count : length r.pieces ≡ i = ap length (e ∙ append_nil front) ∙ h in
-    both_end d.number_at d'.number_at
-    (subst (λ (gs : List Free). Stands (whole_of d r) i gs (Leave (Some (expr.Const d.number d.number_at)))) plain (stands_return d r i count))
-    (subst (λ (k : ℤ). Stands (whole_of d' (record r { frees = fs })) i fs (Leave (Some (expr.Const k d'.number_at)))) number (stands_return d' (record r { frees = fs }) i count))
-together {i} d d' r fs front number plain (more {i = it} {ps = ps} start end straight rest) e h =
+-- the program from an item on
+course : {i n l : ℕ} {ps : List Piece} (d : Draft) (r : Reading) (front : List Piece) → Straight i n ps l → r.pieces ≡ front ++ ps → length front ≡ i → Course (whole_of d r) r.frees d.number l i n
+course {i} d r front none e h = ends d.number_at (stands_return d r i (ap length (e ∙ append-nil front) ∙ h))
+course {i} d r front (more {i = it} {ps = ps} start end straight rest) e h =
     let piece = item_piece (empty_gap i) it start end in
     let count : length (front ++ piece ∷ []) ≡ i + 1 = length-append front (piece ∷ []) ∙ ap (λ (k : ℕ). k + 1) h in
     let onto : r.pieces ≡ (front ++ piece ∷ []) ++ ps = e ∙ sym (append_assoc front (piece ∷ []) ps) in
     let it_does = does straight in
-    both_go (stands_item d r i front ps it start end e h it_does) (stands_item d' (record r { frees = fs }) i front ps it start end e h it_does)
-    (onward_item d r i front ps it start end e h it_does) (onward_item d' (record r { frees = fs }) i front ps it start end e h it_does)
-    it_does.plain (together d d' r fs (front ++ piece ∷ []) number plain rest onto count)
+    goes (stands_item d r i front ps it start end e h it_does) (onward_item d r i front ps it start end e h it_does) it_does.plain (course d r (front ++ piece ∷ []) rest onto count)
 
 gaps_count : (d : Draft) (r : Reading) → (whole_of d r).gaps ≡ (length r.pieces + 1) + 1
 gaps_count d r = omega arith
@@ -136,13 +134,25 @@ gaps_count d r = omega arith
 vars_count : (d : Draft) (r : Reading) → length r.vars ≤ length (whole_of d r).vars
 vars_count d r = let e = length-append r.vars (result_of d ∷ []) in omega arith
 
+-- with the frees of all variables before its return a straight program is safe
 pub safe_straight : (d : Draft) (r : Reading) (fs : List Free) → IsSound r → AllVars 0 (length r.vars) fs → Safe (whole_of d (record r { frees = fs }))
 safe_straight d r fs sound vars =
     safe_course (whole_of d (record r { frees = fs })) (length r.pieces + 1) (gaps_count d (record r { frees = fs })) refl (vars_count d (record r { frees = fs })) vars
-    (course_of (together d d r fs [] refl sound.frees sound.pieces refl refl))
+    (course d (record r { frees = fs }) [] sound.pieces refl refl)
 
+-- the frees of all variables are those of the choice but for offsets
+bare_vars : {x n : ℕ} {fs : List Free} (g k : ℕ) → AllVars x n fs → n ≡ x + k → map bare_free fs ≡ map free_of (map (put_of g) (range_with_len x k))
+bare_vars g zero AllVars.none h = refl
+bare_vars g (suc k) AllVars.none h = absurd (let e : _ ≡ _ + suc k = h in omega arith)
+bare_vars g zero (AllVars.more at start end rest) h = absurd (let o = AllVars-order rest in omega arith)
+bare_vars {x} {n} g (suc k) (AllVars.more {fs = fs} at start end rest) h =
+    let h' : n ≡ x + suc k = h in
+    ap (λ (e : Expr). record { expr = e; start = 0; end = 0 } ∷ map bare_free fs) (bare_variable x at)
+    ∙ ap (λ (gs : List Free). free_of (put_of g x) ∷ gs) (bare_vars {x = x + 1} g k rest (omega arith))
+
+-- and it does the same as without them, as it differs in frees and offsets alone
 pub same_straight : (d d' : Draft) (r : Reading) (fs : List Free) → IsSound r → d'.number ≡ d.number → AllVars 0 (length r.vars) fs → Same (whole_of d r) (whole_of d' (record r { frees = fs }))
 same_straight d d' r fs sound number vars =
-    same_together (whole_of d r) (whole_of d' (record r { frees = fs })) (length r.pieces + 1) (length r.pieces + 1) (gaps_count d r) (gaps_count d' (record r { frees = fs })) refl refl
-    (map-append (λ (v : VarDef). start_value v.ty v.home) r.vars (result_of d ∷ []) ∙ sym (map-append (λ (v : VarDef). start_value v.ty v.home) r.vars (result_of d' ∷ [])))
-    (vars_count d r) vars (together d d' r fs [] number sound.frees sound.pieces refl refl)
+    same_repair (whole_of d r) (whole_of d' (record r { frees = fs })) (choice_of (whole_of d r))
+    (alike_straight d d' r fs sound number (bare_vars (length r.pieces) (length r.vars) vars (omega arith)))
+    (safe_straight d' r fs sound vars)
