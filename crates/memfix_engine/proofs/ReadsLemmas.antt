@@ -1,5 +1,5 @@
 -- A text has one token list and one draft, so what they refuse is refused.
-use Rattle.std.proofs.Common.{◌≡◌, true, false, List, ℕ, Some, None, refl, sym, ◌∙◌, ap, subst}
+use Rattle.std.proofs.Common.{◌≡◌, true, false, List, ℕ, Some, None, sym, ◌∙◌, ap, subst}
 use Rattle.c_lexer.specs.declared.token.Token.{Token}
 use Rattle.c_tree.specs.declared.program.Program.{Program}
 use Rattle.memfix_engine.specs.declared.draft.Draft.{Draft}

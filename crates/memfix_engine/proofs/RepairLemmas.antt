@@ -1,11 +1,9 @@
 -- The repaired text reads as the filled program.
-use Rattle.std.proofs.Common.{◌≡◌, ℕ, zero, suc, ◌+◌, ◌<◌, Bool, true, false, ◌&&◌, List, [], ◌∷◌, ◌++◌, length, map, take, drop, All, Option, Some, None, option_map, refl, sym, ◌∙◌, ap, subst, arith, append_assoc, append-nil}
-use Rattle.std.specs.Prelude.{slice_get, option_and_then, unwrap_or}
-use Rattle.std.specs.List.{flat_map, list_all, range_with_len, AllByRecursion}
+use Rattle.std.proofs.Common.{◌≡◌, ℕ, zero, suc, ◌+◌, true, ◌&&◌, List, [], ◌∷◌, ◌++◌, length, map, take, drop, All, Option, Some, None, option_map, refl, sym, ◌∙◌, ap, subst, arith, append_assoc, append-nil}
+use Rattle.std.specs.Prelude.{slice_get, option_and_then}
+use Rattle.std.specs.List.{flat_map, range_with_len, AllByRecursion}
 use Rattle.std.proofs.lemmas.List.Elements.{All-from_recursion}
 use Rattle.c_lexer.specs.declared.token.Token.{Token}
-use Rattle.c_lexer.specs.declared.token.Kind.{Kind}
-use Rattle.c_lexer.specs.declared.token.Kind.TheVariants as kind
 use Rattle.c_tree.specs.declared.expr.Expr.{Expr}
 use Rattle.c_tree.specs.declared.expr.Expr.TheVariants.{Var}
 use Rattle.c_tree.specs.declared.program.Free.{Free}
@@ -19,20 +17,18 @@ use Rattle.c_meaning.specs.Frees.{AllVars}
 use Rattle.c_meaning.specs.Safe.{Safe, Same}
 use Rattle.memfix_engine.specs.declared.draft.Want.{Want}
 use Rattle.memfix_engine.specs.declared.draft.Pattern.TheVariants as pattern
-use Rattle.memfix_engine.specs.declared.draft.Deed.TheVariants as deed
 use Rattle.memfix_engine.specs.declared.draft.Step.{Step}
 use Rattle.memfix_engine.specs.declared.draft.Draft.{Draft}
 use Rattle.memfix_engine.specs.declared.reading.Reading.{Reading}
 use Rattle.memfix_engine.specs.Scan.{Scans, IsName, free_text, free_tokens, free_tokens_of, shifted}
-use Rattle.memfix_engine.specs.Form.{matches, fits, wants, tail_pattern, is_letter_name, start_at, number_at, number_of, step_of, draft_of, Spells, Steps, none, more, IsForm}
-use Rattle.memfix_engine.specs.Reading.{var_of, stepped, read_from, nothing_read, whole_of, program_of, released}
+use Rattle.memfix_engine.specs.Form.{matches, fits, wants, tail_pattern, is_letter_name, start_at, number_at, step_of, draft_of, Steps, none, more, IsForm}
+use Rattle.memfix_engine.specs.Reading.{var_of, stepped, read_from, nothing_read, whole_of, released}
 use Rattle.memfix_engine.specs.Edit.{edited}
-use Rattle.memfix_engine.specs.Reads.{Reads, IsBuilt, is_plain_deed}
+use Rattle.memfix_engine.specs.Reads.{Reads, IsBuilt}
 use Rattle.memfix_engine.specs.Repair.{Repairs, choice_of, put_of}
-use Rattle.memfix_engine.specs.Straight.{IsSound}
 use Rattle.memfix_engine.proofs.ScanLemmas.{Scans_inserted}
-use Rattle.memfix_engine.proofs.FormLemmas.{matches-length, Spells-step_of}
-use Rattle.memfix_engine.proofs.SoundLemmas.{IsLettered, AreLettered, IsKept, Steps-lettered, read_plain}
+use Rattle.memfix_engine.proofs.FormLemmas.{Spells-step_of}
+use Rattle.memfix_engine.proofs.SoundLemmas.{IsLettered, IsKept, Steps-lettered, read_plain}
 use Rattle.memfix_engine.proofs.EditText.{edited_straight}
 use Rattle.memfix_engine.proofs.EditAlike.{alike_straight}
 use Rattle.memfix_engine.proofs.StraightRuns.{safe_straight, same_straight}

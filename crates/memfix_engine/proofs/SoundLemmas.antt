@@ -1,7 +1,7 @@
 -- Plain steps keep a reading sound.
-use Rattle.std.proofs.Common.{◌≡◌, ◌⊎◌, inl, inr, ℕ, zero, suc, ◌+◌, ◌<◌, Bool, true, false, ◌&&◌, nat_eq, List, [], ◌∷◌, ◌++◌, length, Option, Some, None, option_map, refl, sym, ◌∙◌, ap, subst, arith, length-append}
+use Rattle.std.proofs.Common.{◌≡◌, inl, inr, ℕ, zero, suc, ◌+◌, ◌<◌, Bool, true, false, ◌&&◌, nat_eq, List, [], ◌∷◌, ◌++◌, length, Option, Some, None, option_map, refl, sym, ◌∙◌, ap, subst, arith, length-append}
 use Rattle.std.specs.Prelude.{slice_get, option_and_then}
-use Rattle.std.specs.List.{position, list_all}
+use Rattle.std.specs.List.{list_all}
 use Rattle.std.specs.Cmp.Lexicographic.{pointwise}
 use Rattle.c_lexer.specs.declared.token.Token.{Token}
 use Rattle.c_lexer.specs.declared.token.Kind.{Kind}
@@ -18,12 +18,10 @@ use Rattle.memfix_engine.specs.declared.draft.Pattern.TheVariants as pattern
 use Rattle.memfix_engine.specs.declared.draft.Deed.{Deed}
 use Rattle.memfix_engine.specs.declared.draft.Deed.TheVariants as deed
 use Rattle.memfix_engine.specs.declared.draft.Make.{Make}
-use Rattle.memfix_engine.specs.declared.draft.Store.{Store}
-use Rattle.memfix_engine.specs.declared.draft.Show.{Show}
 use Rattle.memfix_engine.specs.declared.draft.Step.{Step}
 use Rattle.memfix_engine.specs.declared.reading.Reading.{Reading}
 use Rattle.memfix_engine.specs.Scan.{IsName}
-use Rattle.memfix_engine.specs.Form.{fits, is_letter_name, matches, wants, word_of, word_at, deed_of, step_of, Spells, Steps, none, more}
+use Rattle.memfix_engine.specs.Form.{fits, is_letter_name, matches, wants, word_of, word_at, deed_of, Steps, none, more}
 use Rattle.memfix_engine.specs.Reading.{var_of, item_piece, gap_of, with_item, with_make, made, declared, stored, shown, stepped, stepped_by, read_from, nothing_read}
 use Rattle.memfix_engine.specs.Reads.{is_plain_deed}
 use Rattle.memfix_engine.specs.Straight as straight

@@ -1,26 +1,20 @@
 -- The program of a straight text is safe with the frees of all variables before its return, and does
 -- the same as without frees.
-use Rattle.std.proofs.Common.{◌≡◌, ℕ, zero, suc, ◌+◌, ◌≤◌, ℤ, List, [], ◌∷◌, ◌++◌, map, length, slice_get, Option, Some, None, refl, ap, sym, subst, ◌∙◌, arith, append_assoc, append-nil, length-append}
-use Rattle.std.proofs.lemmas.List.{map-append}
+use Rattle.std.proofs.Common.{◌≡◌, ℕ, zero, suc, ◌+◌, ◌≤◌, List, [], ◌∷◌, ◌++◌, map, length, slice_get, Some, None, refl, ap, sym, subst, ◌∙◌, arith, append_assoc, append-nil, length-append}
 use Rattle.c_tree.specs.declared.expr.Expr.TheVariants as expr
-use Rattle.c_tree.specs.declared.program.Block.{Block, Block-F, out-Block, roll-Block, out-roll-Block}
-use Rattle.c_tree.specs.declared.program.Piece.{Piece, Piece-F, out-Piece, roll-Piece, out-roll-Piece}
+use Rattle.c_tree.specs.declared.program.Block.{Block, Block-F, out-Block, out-roll-Block}
+use Rattle.c_tree.specs.declared.program.Piece.{Piece, Piece-F, out-Piece, out-roll-Piece}
 use Rattle.c_tree.specs.declared.program.Item.{Item, Item-F, out-Item}
 use Rattle.c_tree.specs.declared.program.Item.TheVariants as item
 use Rattle.c_tree.specs.declared.program.Item.TheOpen as layer
 use Rattle.c_tree.specs.declared.program.Arm.{Arm}
 use Rattle.c_tree.specs.declared.program.Free.{Free}
 use Rattle.c_tree.specs.declared.program.Gap.{Gap}
-use Rattle.c_tree.specs.declared.program.FunDef.{FunDef}
-use Rattle.c_tree.specs.declared.program.VarDef.{VarDef}
-use Rattle.c_tree.specs.declared.program.Program.{Program}
 use Rattle.c_tree.specs.declared.program.Right.TheVariants as right
 use Rattle.c_tree.specs.declared.program.Call.TheVariants as call
 use Rattle.c_tree.specs.declared.program.Size.TheVariants as size
-use Rattle.c_meaning.specs.declared.machine.Value.{Value}
-use Rattle.c_meaning.specs.Machine.{start_value}
 use Rattle.c_meaning.specs.Frees.{AllVars}
-use Rattle.c_meaning.specs.Place.{Action, Request, Store, Print, Leave, Spot, Onward, To, Lost, behind_action, after_in_fun}
+use Rattle.c_meaning.specs.Place.{Action, Request, Store, Print, Leave, Onward, To, behind_action, after_in_fun}
 use Rattle.c_meaning.specs.Safe.{Safe, Same}
 use Rattle.c_meaning.proofs.Flat.{Stands}
 use Rattle.c_meaning.proofs.Held.{get_seam}
@@ -38,7 +32,7 @@ use Rattle.memfix_engine.specs.Repair.{put_of, choice_of}
 use Rattle.memfix_engine.proofs.EditAlike.{alike_straight}
 use Rattle.memfix_engine.specs.declared.draft.Draft.{Draft}
 use Rattle.memfix_engine.specs.declared.reading.Reading.{Reading}
-use Rattle.memfix_engine.specs.Reading.{declared, stored, shown, item_piece, gap_of, return_of, result_of, body_of, main_of, whole_of}
+use Rattle.memfix_engine.specs.Reading.{item_piece, gap_of, return_of, result_of, body_of, main_of, whole_of}
 use Rattle.memfix_engine.specs.Straight.{IsStraight, Straight, none, more, empty_gap, IsSound}
 
 -- what an item does, and that control goes on behind it

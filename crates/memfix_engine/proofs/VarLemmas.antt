@@ -1,14 +1,12 @@
 -- Variables by their names, and names of one letter.
-use Rattle.std.proofs.Common.{◌≡◌, ◌⊎◌, inl, inr, ℕ, zero, suc, ◌+◌, ◌<◌, ◌≤◌, Bool, true, false, not, cond, ◌==◌, ◌&&◌, ◌||◌, nat_lt, nat_le, nat_eq, List, [], ◌∷◌, ◌++◌, length, Option, Some, None, option_map, refl, sym, ◌∙◌, ap, subst, arith}
+use Rattle.std.proofs.Common.{◌≡◌, ◌⊎◌, inl, inr, ℕ, zero, suc, ◌+◌, ◌<◌, Bool, true, false, not, cond, ◌==◌, ◌&&◌, ◌||◌, nat_lt, nat_le, nat_eq, List, [], ◌∷◌, ◌++◌, length, Option, Some, None, option_map, refl, sym, ◌∙◌, ap, arith}
 use Rattle.std.specs.Prelude.{slice_get}
-use Rattle.std.specs.List.{position, prefix_len, list_all}
+use Rattle.std.specs.List.{position, prefix_len}
 use Rattle.std.specs.Cmp.Lexicographic.{pointwise}
 use Rattle.std.proofs.Math.Bool.{and-false}
 use Rattle.std.proofs.lemmas.Bool.{ltb-true, ltb-false, lt-ltb, le-ltb, eq-eqb}
-use Rattle.c_tree.specs.declared.program.VarDef.{VarDef}
-use Rattle.memfix_engine.specs.Scan.{IsName, is_letter, is_word, is_digit, key_of, begins_with_letter}
+use Rattle.memfix_engine.specs.Scan.{IsName, is_letter}
 use Rattle.memfix_engine.specs.Form.{is_letter_name}
-use Rattle.memfix_engine.specs.Reading.{var_of}
 
 shift_at : (l n : ℕ) (b : Bool) → nat_lt l n ≡ b → nat_lt (1 + l) (suc n) ≡ nat_lt l n
 shift_at l n true e = lt-ltb (1 + l) (suc n) (omega (arith, ltb-true l n e)) ∙ sym e

@@ -1,13 +1,11 @@
 -- The text in which a program's gaps are filled by a choice.
-use Rattle.std.specs.Prelude.{ℕ, ◌+◌, ◌-◌, Bool, true, false, not, nat_eq, List, [], ◌∷◌, ◌++◌, length, take, drop, map, filter, slice_get, unwrap_or, option_map, Option, Some, None, if◌then◌else◌}
-use Rattle.std.specs.List.{flat_map, range_with_len}
+use Rattle.std.specs.Prelude.{ℕ, ◌-◌, Bool, not, nat_eq, List, [], ◌∷◌, ◌++◌, length, take, drop, map, filter, slice_get, unwrap_or, option_map}
+use Rattle.std.specs.List.{flat_map}
 use Rattle.c_tree.specs.declared.choice.Put.{Put}
 use Rattle.c_tree.specs.declared.choice.Choice.{Choice}
 use Rattle.c_tree.specs.declared.program.Block.{Block, out-Block}
 use Rattle.c_tree.specs.declared.program.Piece.{Piece, out-Piece}
-use Rattle.c_tree.specs.declared.program.Gap.{Gap}
 use Rattle.c_tree.specs.declared.program.VarDef.{VarDef}
-use Rattle.c_tree.specs.declared.program.FunDef.{FunDef}
 use Rattle.c_tree.specs.declared.program.Program.{Program}
 use Rattle.c_tree.specs.Fill.{puts_at}
 use Rattle.memfix_engine.specs.declared.edit.Insertion.{Insertion}

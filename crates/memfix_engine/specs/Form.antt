@@ -1,5 +1,5 @@
 -- The first form: which token lists it has, and the draft that is read off each.
-use Rattle.std.specs.Prelude.{◌≡◌, ℕ, ◌+◌, length, take, if◌then◌else◌, option_and_then, Bool, true, false, ◌==◌, ◌&&◌, nat_eq, nat_le, ℤ, pos, List, [], ◌∷◌, ◌++◌, slice_get, unwrap_or, option_map, codes, Option, Some, None, IsTrue}
+use Rattle.std.specs.Prelude.{◌≡◌, ℕ, length, take, if◌then◌else◌, option_and_then, Bool, true, false, ◌==◌, ◌&&◌, nat_eq, nat_le, ℤ, pos, List, [], ◌∷◌, ◌++◌, slice_get, unwrap_or, option_map, codes, Option, Some, None}
 use Rattle.std.specs.Cmp.Lexicographic.{pointwise}
 use Rattle.c_lexer.specs.declared.token.Token.{Token}
 use Rattle.c_lexer.specs.declared.token.Kind.{Kind}

@@ -1,7 +1,6 @@
 -- The program of a draft: its steps give variables, items and frees, one after another.
-use Rattle.std.specs.Prelude.{◌≡◌, ℕ, ◌+◌, Bool, true, false, ◌==◌, nat_eq, ℤ, List, [], ◌∷◌, ◌++◌, length, fold, position, codes, option_map, option_and_then, Option, Some, None, if◌then◌else◌}
+use Rattle.std.specs.Prelude.{ℕ, ◌+◌, true, nat_eq, List, [], ◌∷◌, ◌++◌, length, position, codes, option_map, option_and_then, Option, Some, None}
 use Rattle.std.specs.Cmp.Lexicographic.{pointwise}
-use Rattle.c_tree.specs.declared.expr.Expr.{Expr}
 use Rattle.c_tree.specs.declared.expr.Expr.TheVariants.{Const, Var, Deref}
 use Rattle.c_tree.specs.declared.expr.Op.TheVariants.{Put}
 use Rattle.c_tree.specs.declared.program.Ty.TheVariants.{Int, IntPtr}
@@ -9,12 +8,11 @@ use Rattle.c_tree.specs.declared.program.Home.TheVariants.{Local, Result}
 use Rattle.c_tree.specs.declared.program.Right.TheVariants as right
 use Rattle.c_tree.specs.declared.program.Call.TheVariants.{Malloc, Printf}
 use Rattle.c_tree.specs.declared.program.Size.TheVariants.{Ints}
-use Rattle.c_tree.specs.declared.program.Block.{Block, Block-F, roll-Block}
-use Rattle.c_tree.specs.declared.program.Piece.{Piece, Piece-F, roll-Piece}
+use Rattle.c_tree.specs.declared.program.Block.{Block, roll-Block}
+use Rattle.c_tree.specs.declared.program.Piece.{Piece, roll-Piece}
 use Rattle.c_tree.specs.declared.program.Item.{Item}
 use Rattle.c_tree.specs.declared.program.Item.TheVariants as item
 use Rattle.c_tree.specs.declared.program.Gap.{Gap}
-use Rattle.c_tree.specs.declared.program.Free.{Free}
 use Rattle.c_tree.specs.declared.program.FunDef.{FunDef}
 use Rattle.c_tree.specs.declared.program.VarDef.{VarDef}
 use Rattle.c_tree.specs.declared.program.Program.{Program}

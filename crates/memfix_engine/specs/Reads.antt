@@ -1,5 +1,5 @@
 -- A text that reads as a program of the first form.
-use Rattle.std.specs.Prelude.{◌≡◌, ℕ, Bool, true, false, List, Option, Some}
+use Rattle.std.specs.Prelude.{◌≡◌, ℕ, Bool, true, false, List, Some}
 use Rattle.std.specs.List.{list_all}
 use Rattle.c_lexer.specs.declared.token.Token.{Token}
 use Rattle.c_tree.specs.declared.program.Program.{Program}

@@ -1,5 +1,5 @@
 -- The repair of a program of the first form: one free for each variable, all before the return.
-use Rattle.std.specs.Prelude.{◌≡◌, ℕ, ◌-◌, List, map, length, Option, None}
+use Rattle.std.specs.Prelude.{◌≡◌, ℕ, ◌-◌, List, map, length, None}
 use Rattle.std.specs.List.{range_with_len}
 use Rattle.c_tree.specs.declared.choice.Put.{Put}
 use Rattle.c_tree.specs.declared.choice.Choice.{Choice}

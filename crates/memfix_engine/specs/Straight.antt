@@ -1,6 +1,6 @@
 -- The items of a straight program: each declares the next variable, or stores to or prints one that
 -- is declared, behind a gap with no frees.
-use Rattle.std.specs.Prelude.{◌≡◌, ℕ, ◌+◌, ◌<◌, List, [], ◌∷◌, ◌++◌, length, slice_get, Some}
+use Rattle.std.specs.Prelude.{◌≡◌, ℕ, ◌+◌, ◌<◌, List, [], ◌∷◌, length, slice_get, Some}
 use Rattle.c_tree.specs.declared.program.Gap.{Gap}
 use Rattle.c_tree.specs.declared.program.Item.{Item}
 use Rattle.c_tree.specs.declared.program.Piece.{Piece}
