@@ -12,3 +12,4 @@ pub mod Opened
 pub mod Skeletons
 pub mod Bare
 pub mod Alikes
+pub mod Unfreed

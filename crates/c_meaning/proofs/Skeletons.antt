@@ -6,7 +6,7 @@ use Rattle.std.proofs.lemmas.Option.{slice_get-map}
 use Rattle.c_tree.specs.Fill.{regapped_fun, emptied, skeleton, fill}
 use Rattle.c_tree.specs.declared.choice.Choice.{Choice}
 use Rattle.c_tree.proofs.Rebuilds.{Maps, in_item, in_block, in_piece, rebuilt}
-use Rattle.c_tree.proofs.Fills.{gap_layers, skeleton_fill}
+use Rattle.c_tree.proofs.Fills.{gap_layers, skeleton_fill, skeleton_skeleton}
 use Rattle.c_tree.specs.declared.program.Block.{Block, Block-F, out-Block}
 use Rattle.c_tree.specs.declared.program.Piece.{Piece, Piece-F, out-Piece}
 use Rattle.c_tree.specs.declared.program.Item.{Item, Item-F, out-Item}
@@ -161,7 +161,7 @@ after_fun_bare (Some f) path = ap (onward_path (bare.block f.body)) (after_bare 
 fun_bare : (p : Program) (k : ℕ) → slice_get (skeleton p).funs k ≡ option_map (regapped_fun emptied) (slice_get p.funs k)
 fun_bare p k = slice_get-map (regapped_fun emptied) p.funs k
 
-here_bare : (p : Program) (fs : List Frame) → here (skeleton p) fs ≡ bare_spot (here p fs)
+pub here_bare : (p : Program) (fs : List Frame) → here (skeleton p) fs ≡ bare_spot (here p fs)
 here_bare p [] = refl
 here_bare p (f ∷ fs) = ap (λ (o : Option FunDef). spot_in_fun o f.path) (fun_bare p f.fun) ∙ spot_fun_bare (slice_get p.funs f.fun) f.path
 
@@ -184,6 +184,10 @@ one_skeleton p q e = record {
 -- two fills of one program
 pub two_fills : (p : Program) (s t : Choice) → FreesApart (fill p s) (fill p t)
 two_fills p s t = one_skeleton (fill p s) (fill p t) (skeleton_fill p s ∙ sym (skeleton_fill p t))
+
+-- a program and its skeleton
+pub with_skeleton : (p : Program) → FreesApart p (skeleton p)
+with_skeleton p = one_skeleton p (skeleton p) (sym (skeleton_skeleton p))
 
 -- a safe program does the same as each program of its skeleton
 pub same_skeleton : (p q : Program) → skeleton p ≡ skeleton q → Safe q → Same p q
