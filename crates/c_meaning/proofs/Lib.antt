@@ -10,6 +10,7 @@ pub mod Marks
 pub mod Erased
 pub mod Opened
 pub mod Skeletons
+mod TwoPrograms
 pub mod Bare
 pub mod Alikes
 pub mod Unfreed
