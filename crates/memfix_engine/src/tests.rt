@@ -123,3 +123,14 @@ fn a_byte_more_than_the_limit_is_too_long(rt: HostRuntime) -> Result<(), Fail> {
     );
     Ok(())
 }
+
+#[test]
+fn a_text_is_read_and_repaired(rt: HostRuntime) -> Result<(), Fail> {
+    let alloc = rt.alloc();
+    let program = read_source(alloc, ONE.as_bytes())?;
+    assert_eq!(rt; program.vars.len(), 2);
+    assert_eq!(rt; program.gaps, 5);
+    let text = repair(alloc, ONE.as_bytes(), false)?;
+    assert_eq!(rt; text.as_slice(), ONE_REPAIRED.as_bytes());
+    Ok(())
+}
