@@ -1,5 +1,6 @@
 -- The tokens of a text, or its first lexical fault (C99 6.4): only blanks, comments and include lines between tokens.
 use Rattle.std.specs.Prelude.{ℕ, ◌+◌, Bool, true, false, ◌||◌, List, [], ◌∷◌, Option, Some, None, drop}
+use Rattle.c_lexer.specs.declared.token.Token.{Token}
 use Rattle.c_lexer.specs.declared.piece.Piece.{Piece}
 use Rattle.c_lexer.specs.declared.piece.Piece.TheVariants as piece
 use Rattle.c_lexer.specs.declared.reading.Reading.{Reading}
@@ -56,3 +57,8 @@ pub data Scan : Bool → ℕ → List ℕ → Reading → Type 0 where
 -- the reading of a whole text
 abbrev pub Reads : List ℕ → Reading → Type 0
 Reads bytes r = Scan true 0 bytes r
+
+-- the text is read to its end without a fault, and these are its tokens
+pub record HasTokens (bytes : List ℕ) (tokens : List Token) : Type 0 where
+  pub last_comment : Option (ℕ × ℕ)
+  pub reads : Reads bytes (record { tokens = tokens; last_comment = last_comment; fault = None })

@@ -9,3 +9,4 @@ pub mod Refusal
 pub mod Repair
 pub mod Scan
 pub mod Straight
+pub mod FreeText
