@@ -3,7 +3,7 @@ use Rattle.std.proofs.Common.{◌≡◌, ℕ, zero, suc, ◌+◌, Bool, true, fa
 use Rattle.std.proofs.lemmas.Bool.{eq-eqb, lt-ltb}
 use Rattle.std.specs.List.{range_with_len}
 use Rattle.c_tree.specs.Fill.{ascends, precedes}
-use Rattle.memfix_engine.specs.Repair.{put_of}
+use Rattle.memfix_engine.specs.Own.{put_of}
 
 or_right : (a b c : Bool) → b ≡ true → c ≡ true → (a || (b && c)) ≡ true
 or_right true b c p q = refl

@@ -1,12 +1,10 @@
--- Variables by their names, and names of one letter.
+-- Variables by their names.
 use Rattle.std.proofs.Common.{◌≡◌, ◌⊎◌, inl, inr, ℕ, zero, suc, ◌+◌, ◌<◌, Bool, true, false, not, cond, ◌==◌, ◌&&◌, ◌||◌, nat_lt, nat_le, nat_eq, List, [], ◌∷◌, ◌++◌, length, Option, Some, None, option_map, refl, sym, ◌∙◌, ap, arith}
 use Rattle.std.specs.Prelude.{slice_get}
 use Rattle.std.specs.List.{position, prefix_len}
 use Rattle.std.specs.Cmp.Lexicographic.{pointwise}
 use Rattle.std.proofs.Math.Bool.{and-false}
 use Rattle.std.proofs.lemmas.Bool.{ltb-true, ltb-false, lt-ltb, le-ltb, eq-eqb}
-use Rattle.memfix_engine.specs.Scan.{IsName, is_letter}
-use Rattle.memfix_engine.specs.Form.{is_letter_name}
 
 shift_at : (l n : ℕ) (b : Bool) → nat_lt l n ≡ b → nat_lt (1 + l) (suc n) ≡ nat_lt l n
 shift_at l n true e = lt-ltb (1 + l) (suc n) (omega (arith, ltb-true l n e)) ∙ sym e
@@ -79,15 +77,3 @@ slice_get-snoc (y ∷ xs) x u (suc k) h =
 pub pointwise_same : (xs : List ℕ) → pointwise nat_eq xs xs ≡ true
 pointwise_same [] = refl
 pointwise_same (x ∷ xs) = rw (eq-eqb x x refl) (pointwise_same xs)
-
-letter_or : (a b c : Bool) → a ≡ true → ((a || b) || c) ≡ true
-letter_or true b c h = refl
-letter_or false b c h = cc
-
--- one lower-case letter is a name
-pub letter_is_name : (x : List ℕ) → is_letter_name x ≡ true → IsName x
-letter_is_name [] h = cc
-letter_is_name (c ∷ []) h =
-    let letter : is_letter c ≡ true = letter_or (nat_le 97 c && nat_le c 122) (nat_le 65 c && nat_le c 90) (c == 95) h in
-    record { begins = letter; word = rw letter refl; no_key = simp and-false }
-letter_is_name (c ∷ d ∷ x) h = cc

@@ -1,44 +1,78 @@
--- The text in which a program's gaps are filled by a choice.
-use Rattle.std.specs.Prelude.{ℕ, ◌-◌, Bool, not, nat_eq, List, [], ◌∷◌, ◌++◌, length, take, drop, map, filter, slice_get, unwrap_or, option_map}
+-- The text in which a program's gaps are filled by a choice: old frees become blanks, and new ones are
+-- written. Frees are of variables, in gaps of the outermost blocks.
+use Rattle.std.specs.Prelude.{ℕ, ◌-◌, Bool, true, false, ◌&&◌, ◌==◌, nat_le, nat_lt, if◌then◌else◌, List, [], ◌∷◌, ◌++◌, length, take, drop, map, filter, replicate, slice_get, unwrap_or, option_map, Option, Some, None}
 use Rattle.std.specs.List.{flat_map}
+use Rattle.c_lexer.specs.declared.token.Token.{Token}
 use Rattle.c_tree.specs.declared.choice.Put.{Put}
 use Rattle.c_tree.specs.declared.choice.Choice.{Choice}
+use Rattle.c_tree.specs.declared.expr.Expr.{Expr, Expr-F, out-Expr}
+use Rattle.c_tree.specs.declared.expr.Expr.TheOpen.{Var}
 use Rattle.c_tree.specs.declared.program.Block.{Block, out-Block}
 use Rattle.c_tree.specs.declared.program.Piece.{Piece, out-Piece}
+use Rattle.c_tree.specs.declared.program.Gap.{Gap}
+use Rattle.c_tree.specs.declared.program.Free.{Free}
 use Rattle.c_tree.specs.declared.program.VarDef.{VarDef}
 use Rattle.c_tree.specs.declared.program.Program.{Program}
 use Rattle.c_tree.specs.Fill.{puts_at}
-use Rattle.memfix_engine.specs.declared.edit.Insertion.{Insertion}
-use Rattle.memfix_engine.specs.Scan.{free_text}
+use Rattle.memfix_engine.specs.declared.edit.Change.{Change}
+use Rattle.memfix_engine.specs.FreeText.{free_text}
+
+-- the free is that of the put
+abbrev pub is_of : Option ℕ → ℕ → Expr-F Expr → Bool
+is_of None x (Var y at) = y == x
+is_of _ _ _ = false
+
+abbrev pub is_put : Free → Put → Bool
+is_put f q = is_of q.field q.var (out-Expr f.expr)
+
+-- the frees are those of the puts, one by one
+abbrev pub are_put : List Free → List Put → Bool
+are_put [] [] = true
+are_put [] (q ∷ qs) = false
+are_put (f ∷ fs) [] = false
+are_put (f ∷ fs) (q ∷ qs) = is_put f q && are_put fs qs
+
+-- the tokens of an old free but its `;`, which is the last
+abbrev pub is_within : Free → Token → Bool
+is_within f t = nat_le f.start t.start && nat_lt t.end f.end
+
+-- each byte of the token becomes a blank
+abbrev pub blanked : Token → Change
+blanked t = record { start = t.start; end = t.end; text = replicate (t.end - t.start) 32 }
+
+abbrev pub blanks : List Token → Free → List Change
+blanks ts f = map blanked (filter (is_within f) ts)
 
 abbrev pub name_of : List VarDef → ℕ → List ℕ
 name_of vars x = unwrap_or (option_map (λ v. v.name) (slice_get vars x)) []
 
--- ` free(x); ` for each put of a gap, in the order of the choice
-abbrev pub frees_of : List VarDef → List Put → List ℕ
-frees_of vars puts = flat_map (λ q. free_text (name_of vars q.var)) puts
+-- ` free(x); ` at an offset
+abbrev pub written : List VarDef → ℕ → Put → Change
+written vars at q = record { start = at; end = at; text = free_text (name_of vars q.var) }
 
--- before an item, and in a last gap before the closing brace
-abbrev pub before_item : List VarDef → List Put → Piece → Insertion
-before_item vars puts p = record { at = (out-Piece p).start; text = frees_of vars (puts_at puts (out-Piece p).gap.number) }
+-- a gap with equal lists keeps its bytes
+abbrev pub gap_changes : List Token → List VarDef → List Put → ℕ → Gap → List Change
+gap_changes ts vars puts at g =
+    if are_put g.frees puts then [] else flat_map (blanks ts) g.frees ++ map (written vars at) puts
 
-abbrev pub before_brace : List VarDef → List Put → Block → Insertion
-before_brace vars puts b = record { at = (out-Block b).end - 1; text = frees_of vars (puts_at puts (out-Block b).last_gap.number) }
+-- the place is before the item behind the gap, and in a last gap before the closing brace
+abbrev pub piece_changes : List Token → List VarDef → List Put → Piece → List Change
+piece_changes ts vars puts p = gap_changes ts vars (puts_at puts (out-Piece p).gap.number) (out-Piece p).start (out-Piece p).gap
 
-abbrev pub block_insertions : List VarDef → List Put → Block → List Insertion
-block_insertions vars puts b = map (before_item vars puts) (out-Block b).items ++ before_brace vars puts b ∷ []
+abbrev pub last_changes : List Token → List VarDef → List Put → Block → List Change
+last_changes ts vars puts b = gap_changes ts vars (puts_at puts (out-Block b).last_gap.number) ((out-Block b).end - 1) (out-Block b).last_gap
 
-abbrev pub insertions : Program → List Put → List Insertion
-insertions p puts = flat_map (λ f. block_insertions p.vars puts f.body) p.funs
+abbrev pub block_changes : List Token → List VarDef → List Put → Block → List Change
+block_changes ts vars puts b = flat_map (piece_changes ts vars puts) (out-Block b).items ++ last_changes ts vars puts b
 
-abbrev pub is_some_text : Insertion → Bool
-is_some_text i = not (nat_eq (length i.text) 0)
+abbrev pub changes : List Token → Program → List Put → List Change
+changes ts p puts = flat_map (λ f. block_changes ts p.vars puts f.body) p.funs
 
--- the bytes from the offset `at` on, with the insertions at their places
-abbrev pub inserted : ℕ → List Insertion → List ℕ → List ℕ
-inserted at [] bytes = bytes
-inserted at (i ∷ more) bytes = take (i.at - at) bytes ++ i.text ++ inserted i.at more (drop (i.at - at) bytes)
+-- the bytes from the offset `at` on, with the changes made; all other bytes stay
+abbrev pub changed : ℕ → List Change → List ℕ → List ℕ
+changed at [] bytes = bytes
+changed at (c ∷ more) bytes = take (c.start - at) bytes ++ c.text ++ changed c.end more (drop (c.end - at) bytes)
 
--- all other bytes stay
-abbrev pub edited : List ℕ → Program → Choice → List ℕ
-edited bytes p choice = inserted 0 (filter is_some_text (insertions p choice.puts)) bytes
+-- the text of these bytes and tokens, which reads as the program, edited by the choice
+abbrev pub edited : List ℕ → List Token → Program → Choice → List ℕ
+edited bytes ts p choice = changed 0 (changes ts p choice.puts) bytes

@@ -1,5 +1,5 @@
 -- The first form: which token lists it has, and the draft that is read off each.
-use Rattle.std.specs.Prelude.{◌≡◌, ℕ, length, take, if◌then◌else◌, option_and_then, Bool, true, false, ◌==◌, ◌&&◌, nat_eq, nat_le, ℤ, pos, List, [], ◌∷◌, ◌++◌, slice_get, unwrap_or, option_map, codes, Option, Some, None}
+use Rattle.std.specs.Prelude.{◌≡◌, ℕ, length, take, if◌then◌else◌, option_and_then, Bool, true, false, ◌==◌, ◌&&◌, nat_eq, not, ℤ, pos, List, [], ◌∷◌, ◌++◌, slice_get, unwrap_or, option_map, codes, Option, Some, None}
 use Rattle.std.specs.Cmp.Lexicographic.{pointwise}
 use Rattle.c_lexer.specs.declared.token.Token.{Token}
 use Rattle.c_lexer.specs.declared.token.Kind.{Kind}
@@ -14,17 +14,14 @@ use Rattle.memfix_engine.specs.declared.draft.Deed.TheVariants as deed
 use Rattle.memfix_engine.specs.declared.draft.Step.{Step}
 use Rattle.memfix_engine.specs.declared.draft.Draft.{Draft}
 
--- one lower-case letter
-abbrev pub is_letter_name : List ℕ → Bool
-is_letter_name [] = false
-is_letter_name (c ∷ []) = nat_le 97 c && nat_le c 122
-is_letter_name (c ∷ d ∷ more) = false
+abbrev pub is_main : List ℕ → Bool
+is_main word = pointwise nat_eq word (codes "main")
 
 abbrev pub fits : Want → Kind → Bool
 fits (Key k) (kind.Key n) = k == n
 fits (Punct k) (kind.Punct n) = k == n
-fits Name (kind.Name word) = is_letter_name word
-fits Main (kind.Name word) = pointwise nat_eq word (codes "main")
+fits Name (kind.Name word) = not (is_main word)
+fits Main (kind.Name word) = is_main word
 fits Number (kind.Number n) = true
 fits Format (kind.Text text) = pointwise nat_eq text (37 ∷ 100 ∷ 10 ∷ [])
 fits _ _ = false

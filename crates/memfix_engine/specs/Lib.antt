@@ -1,12 +1,10 @@
-pub mod Command
-pub mod Edit
+pub mod FreeText
 pub mod Form
-pub mod Notes
-pub mod Outcome
 pub mod Reading
 pub mod Reads
+pub mod Prefix
 pub mod Refusal
+pub mod Edit
+pub mod Own
 pub mod Repair
-pub mod Scan
 pub mod Straight
-pub mod FreeText

@@ -17,8 +17,8 @@ pub(crate) enum Pattern {
     Empty,
 }
 
-/// What a token of a pattern is: a key word or punctuator of that number, a name of one lower-case
-/// letter, the name `main`, a number, or the text `"%d\n"`.
+/// What a token of a pattern is: a key word or punctuator of that number, a name other
+/// than `main`, the name `main`, a number, or the text `"%d\n"`.
 #[derive(Clone, Copy, Debug, PartialEq, Eq)]
 pub(crate) enum Want {
     Key(u16),

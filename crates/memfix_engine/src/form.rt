@@ -3,7 +3,7 @@ ghost use Rattle.std.specs.Prelude.{◌≡◌, ◌<◌, ◌≤◌, length, take,
 ghost use Rattle.std.specs.List.{list_all, zip};
 ghost use Rattle.c_lexer.specs.declared.token.Token.{Token};
 ghost use Rattle.memfix_engine.specs.declared.draft.Draft.{Draft};
-ghost use Rattle.memfix_engine.specs.Form.{fits, matches, head_pattern, tail_pattern, wants, start_at, end_at, word_at, word_of, number_of, is_letter_name, number_at, deed_of, last_of, step_of, candidate, begins, pattern_at, draft_of, Spells, Steps, IsForm};
+ghost use Rattle.memfix_engine.specs.Form.{fits, matches, head_pattern, tail_pattern, wants, start_at, end_at, word_at, word_of, number_of, is_main, number_at, deed_of, last_of, step_of, candidate, begins, pattern_at, draft_of, Spells, Steps, IsForm};
 
 use crate::draft::{Deed, Draft, Make, Pattern, Release, Show, Step, Store, Want};
 use crate::kinds::{
@@ -87,10 +87,10 @@ fn wants(pattern: Pattern) -> &'static [Want]
     }
 }
 
-fn is_letter_name(word: &[u8]) -> bool
-    ensures { result ≡ is_letter_name word.now }
+fn is_main(word: &[u8]) -> bool
+    ensures { result ≡ is_main word.now }
 {
-    matches!(word, [b'a'..=b'z'])
+    word == b"main".as_slice()
 }
 
 fn fits(want: Want, kind: &Kind) -> bool
@@ -99,8 +99,8 @@ fn fits(want: Want, kind: &Kind) -> bool
     match (want, kind) {
         (Want::Key(k), Kind::Key(n)) => k == *n,
         (Want::Punct(k), Kind::Punct(n)) => k == *n,
-        (Want::Name, Kind::Name(word)) => is_letter_name(word.as_slice()),
-        (Want::Main, Kind::Name(word)) => word.as_slice() == b"main".as_slice(),
+        (Want::Name, Kind::Name(word)) => !is_main(word.as_slice()),
+        (Want::Main, Kind::Name(word)) => is_main(word.as_slice()),
         (Want::Number, Kind::Number(_)) => true,
         (Want::Format, Kind::Text(text)) => text.as_slice() == b"%d\n".as_slice(),
         _ => false,

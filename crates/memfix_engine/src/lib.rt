@@ -1,24 +1,12 @@
 //! The repair of a C text, from bytes to bytes.
 #![tactic(auto)]
 
-mod command;
 mod draft;
 mod edit;
 mod form;
 mod items;
 mod kinds;
-mod notes;
-mod outcome;
 mod reading;
 mod refusal;
-mod repairs;
-mod scan;
-mod source;
 
-pub use command::memfix;
 pub use refusal::{RepairRefusal, SourceRefusal};
-pub use repairs::{SOURCE_LIMIT, repair};
-pub use source::read_source;
-
-#[cfg(test)]
-mod tests;

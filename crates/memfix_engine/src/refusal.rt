@@ -1,12 +1,17 @@
 //! Why a text is refused.
 
+use c_lexer::LexRefusal;
 use std::alloc::AllocError;
 use thiserror::Error;
 
 /// Why no program is read from a text.
 #[derive(Clone, Copy, Debug, PartialEq, Eq, Error)]
 pub enum SourceRefusal {
-    /// The text is of no form that is built; the offset is that of the place.
+    /// The lexer refuses the text. What it holds is never `Memory`.
+    #[error("not read as tokens")]
+    Lex(LexRefusal),
+    /// The text is of no form that is built; the offset is that of the first token that fits no such
+    /// form, or the size of the text.
     #[error("not built yet at byte {0}")]
     NotBuilt(usize),
     #[error("out of memory")]
