@@ -1,3 +1,6 @@
 pub mod EditLemmas
+pub mod Emptied
 pub mod FormLemmas
+pub mod FormTokens
+pub mod TextLemmas
 pub mod VarLemmas
