@@ -76,10 +76,6 @@ pub set_seam : {A : Type 0} (xs : List A) (x y : A) (ys : List A) → slice_set 
 set_seam [] x y ys = refl
 set_seam (a ∷ xs) x y ys = ap (λ (zs : List _). a ∷ zs) (set_seam xs x y ys)
 
-pub altered_seam : {A : Type 0} (f : A → A) (xs : List A) (x : A) (ys : List A) → altered f (length xs) (xs ++ x ∷ ys) ≡ (xs ++ f x ∷ []) ++ ys
-altered_seam f [] x ys = refl
-altered_seam f (a ∷ xs) x ys = ap (λ (zs : List _). a ∷ zs) (altered_seam f xs x ys)
-
 -- a variable that goes is gone, and no other
 pub is_in_first : (y : ℕ) (gone : List ℕ) → is_in y (y ∷ gone) ≡ true
 is_in_first y gone = ap (λ (b : Bool). b || is_in y gone) (eq-eqb y y refl)
