@@ -1,5 +1,5 @@
 -- The values of expressions, one level opened.
-use Rattle.std.proofs.Common.{◌≡◌, ℕ, ℤ, pos, false, List, [], ◌∷◌, slice_get, Some, Result, Ok, refl, ap, sym, ◌∙◌}
+use Rattle.std.proofs.Common.{◌≡◌, ℕ, ℤ, pos, Bool, false, List, [], ◌∷◌, slice_get, Some, Result, Ok, refl, ap, sym, ◌∙◌}
 use Rattle.c_tree.specs.declared.expr.Expr.{Expr, fold-roll-Expr}
 use Rattle.c_tree.specs.declared.expr.Expr.TheVariants as expr
 use Rattle.c_tree.specs.declared.expr.Expr.TheOpen as open_expr
@@ -32,11 +32,11 @@ pub place_deref : (slots : List Value) (objects : List Object) (e : Expr) (at : 
     place_of slots objects (expr.Deref e at) ≡ (eval slots objects e >>= cell_of objects at (pos 0))
 place_deref slots objects e at = ap (place_layer slots objects) (expr.outs-Deref e at)
 
--- an object of one cell that is not freed
-abbrev pub cell_object : Value → Object
-cell_object v = record { cells = v ∷ []; freed = false }
+-- an object of one cell, and whether it is freed
+abbrev pub cell_object : Value → Bool → Object
+cell_object v freed = record { cells = v ∷ []; freed = freed }
 
--- *x where x holds a null pointer, and where it holds an object of one cell
+-- *x where x holds a null pointer, and where it holds an object of one cell that is not freed
 
 pub place_at_null : (slots : List Value) (objects : List Object) (x at star : ℕ) → slot_of slots x ≡ value.Null →
     place_of slots objects (expr.Deref (expr.Var x at) star) ≡ flaw NullDeref star
@@ -45,7 +45,7 @@ place_at_null slots objects x at star h =
     ∙ ap (λ (r : Result Value Flaw). r >>= cell_of objects star (pos 0)) (eval_var slots objects x at)
     ∙ ap (λ (v : Value). read objects at v >>= cell_of objects star (pos 0)) h
 
-pub place_at_cell : (slots : List Value) (objects : List Object) (x at star o : ℕ) (w : Value) → slot_of slots x ≡ value.Ptr o → slice_get objects o ≡ Some (cell_object w) →
+pub place_at_cell : (slots : List Value) (objects : List Object) (x at star o : ℕ) (w : Value) → slot_of slots x ≡ value.Ptr o → slice_get objects o ≡ Some (cell_object w false) →
     place_of slots objects (expr.Deref (expr.Var x at) star) ≡ Ok (Cell o 0)
 place_at_cell slots objects x at star o w h k =
     place_deref slots objects (expr.Var x at) star
@@ -60,7 +60,7 @@ eval_at_null slots objects x at star h =
     ∙ ap (λ (r : Result Value Flaw). r >>= λ v. cell_of objects star (pos 0) v >>= value_at slots objects star) (eval_var slots objects x at)
     ∙ ap (λ (v : Value). read objects at v >>= λ v. cell_of objects star (pos 0) v >>= value_at slots objects star) h
 
-pub eval_at_cell : (slots : List Value) (objects : List Object) (x at star o : ℕ) (w : Value) → slot_of slots x ≡ value.Ptr o → slice_get objects o ≡ Some (cell_object w) →
+pub eval_at_cell : (slots : List Value) (objects : List Object) (x at star o : ℕ) (w : Value) → slot_of slots x ≡ value.Ptr o → slice_get objects o ≡ Some (cell_object w false) →
     eval slots objects (expr.Deref (expr.Var x at) star) ≡ read objects star w
 eval_at_cell slots objects x at star o w h k =
     eval_deref slots objects (expr.Var x at) star

@@ -1,51 +1,70 @@
 -- What the variables of a straight program hold, one after another: a null pointer, or an object of one
--- cell of their own, with that content. Objects are numbered from k on.
-use Rattle.std.proofs.Common.{◌≡◌, ℕ, zero, suc, ◌+◌, ◌<◌, Bool, true, false, pos, List, [], ◌∷◌, ◌++◌, length, slice_get, slice_set, Option, Some, None, refl, ap, sym, ◌∙◌, arith}
+-- cell of their own. The objects of the variables that are gone are freed. Objects are numbered from k on,
+-- variables from i on.
+use Rattle.std.proofs.Common.{◌≡◌, ℕ, zero, suc, ◌+◌, ◌<◌, ◌≤◌, Bool, true, false, ◌||◌, ℤ, pos, List, [], ◌∷◌, ◌++◌, length, slice_get, slice_set, Option, Some, None, refl, ap, sym, subst, ◌∙◌, arith, All, IsTrue}
+use Rattle.std.proofs.lemmas.Bool.{eq-eqb, ne_eqb}
+use Rattle.std.proofs.lemmas.List.Elements.{All-nil, All-cons}
 use Rattle.c_meaning.specs.declared.machine.Value.{Value}
 use Rattle.c_meaning.specs.declared.machine.Value.TheVariants as value
 use Rattle.c_meaning.specs.declared.machine.Object.{Object}
-use Rattle.c_meaning.specs.Eval.{slot_of, is_freed, Slot}
-use Rattle.c_meaning.specs.Machine.{altered, with_cell}
+use Rattle.c_meaning.specs.Eval.{slot_of, Slot}
+use Rattle.c_meaning.specs.Frees.{is_in}
+use Rattle.c_meaning.specs.Machine.{altered, with_cell, dead}
 use Rattle.c_meaning.specs.Step.{granted}
 use Rattle.c_meaning.proofs.Evals.{cell_object}
 use Rattle.c_meaning.proofs.Flat.{running}
 
-abbrev pub slots_of : ℕ → List (Option Value) → List Value
+-- a null pointer, or an object with that content of its cell: indeterminate, or an integer
+pub data Holding : Type 0 where
+  Nothing : Holding
+  Owned : (content : Option ℤ) → Holding
+
+abbrev pub cell_value : Option ℤ → Value
+cell_value None = value.Undef
+cell_value (Some n) = value.Int n
+
+abbrev pub slots_of : ℕ → List Holding → List Value
 slots_of k [] = []
-slots_of k (None ∷ hs) = value.Null ∷ slots_of k hs
-slots_of k (Some v ∷ hs) = value.Ptr k ∷ slots_of (k + 1) hs
+slots_of k (Nothing ∷ hs) = value.Null ∷ slots_of k hs
+slots_of k (Owned c ∷ hs) = value.Ptr k ∷ slots_of (k + 1) hs
 
-abbrev pub objects_of : List (Option Value) → List Object
-objects_of [] = []
-objects_of (None ∷ hs) = objects_of hs
-objects_of (Some v ∷ hs) = cell_object v ∷ objects_of hs
+abbrev pub objects_of : ℕ → List ℕ → List Holding → List Object
+objects_of i gone [] = []
+objects_of i gone (Nothing ∷ hs) = objects_of (i + 1) gone hs
+objects_of i gone (Owned c ∷ hs) = cell_object (cell_value c) (is_in i gone) ∷ objects_of (i + 1) gone hs
 
-pub length-slots : (k : ℕ) (hs : List (Option Value)) → length (slots_of k hs) ≡ length hs
+pub length-slots : (k : ℕ) (hs : List Holding) → length (slots_of k hs) ≡ length hs
 length-slots k [] = refl
-length-slots k (None ∷ hs) = ap suc (length-slots k hs)
-length-slots k (Some v ∷ hs) = ap suc (length-slots (k + 1) hs)
+length-slots k (Nothing ∷ hs) = ap suc (length-slots k hs)
+length-slots k (Owned c ∷ hs) = ap suc (length-slots (k + 1) hs)
 
-pub slots_null : (k : ℕ) (hs : List (Option Value)) → slots_of k (hs ++ None ∷ []) ≡ slots_of k hs ++ value.Null ∷ []
+pub slots_null : (k : ℕ) (hs : List Holding) → slots_of k (hs ++ Nothing ∷ []) ≡ slots_of k hs ++ value.Null ∷ []
 slots_null k [] = refl
-slots_null k (None ∷ hs) = ap (λ (xs : List Value). value.Null ∷ xs) (slots_null k hs)
-slots_null k (Some v ∷ hs) = ap (λ (xs : List Value). value.Ptr k ∷ xs) (slots_null (k + 1) hs)
+slots_null k (Nothing ∷ hs) = ap (λ (xs : List Value). value.Null ∷ xs) (slots_null k hs)
+slots_null k (Owned c ∷ hs) = ap (λ (xs : List Value). value.Ptr k ∷ xs) (slots_null (k + 1) hs)
 
-pub slots_ptr : (k : ℕ) (hs : List (Option Value)) (w : Value) → slots_of k (hs ++ Some w ∷ []) ≡ slots_of k hs ++ value.Ptr (k + length (objects_of hs)) ∷ []
-slots_ptr k [] w = let e : k ≡ k + 0 = omega arith in ap (λ (o : ℕ). value.Ptr o ∷ []) e
-slots_ptr k (None ∷ hs) w = ap (λ (xs : List Value). value.Null ∷ xs) (slots_ptr k hs w)
-slots_ptr k (Some v ∷ hs) w =
-    let e : (k + 1) + length (objects_of hs) ≡ k + suc (length (objects_of hs)) = omega arith in
-    ap (λ (xs : List Value). value.Ptr k ∷ xs) (slots_ptr (k + 1) hs w ∙ ap (λ (o : ℕ). slots_of (k + 1) hs ++ value.Ptr o ∷ []) e)
+pub slots_ptr : (k i : ℕ) (gone : List ℕ) (hs : List Holding) (c : Option ℤ) → slots_of k (hs ++ Owned c ∷ []) ≡ slots_of k hs ++ value.Ptr (k + length (objects_of i gone hs)) ∷ []
+slots_ptr k i gone [] c = let e : k ≡ k + 0 = omega arith in ap (λ (o : ℕ). value.Ptr o ∷ []) e
+slots_ptr k i gone (Nothing ∷ hs) c = ap (λ (xs : List Value). value.Null ∷ xs) (slots_ptr k (i + 1) gone hs c)
+slots_ptr k i gone (Owned b ∷ hs) c =
+    let e : (k + 1) + length (objects_of (i + 1) gone hs) ≡ k + suc (length (objects_of (i + 1) gone hs)) = omega arith in
+    ap (λ (xs : List Value). value.Ptr k ∷ xs) (slots_ptr (k + 1) (i + 1) gone hs c ∙ ap (λ (o : ℕ). slots_of (k + 1) hs ++ value.Ptr o ∷ []) e)
 
-pub objects_null : (hs : List (Option Value)) → objects_of (hs ++ None ∷ []) ≡ objects_of hs
-objects_null [] = refl
-objects_null (None ∷ hs) = objects_null hs
-objects_null (Some v ∷ hs) = ap (λ (xs : List Object). cell_object v ∷ xs) (objects_null hs)
+pub objects_null : (i : ℕ) (gone : List ℕ) (hs : List Holding) → objects_of i gone (hs ++ Nothing ∷ []) ≡ objects_of i gone hs
+objects_null i gone [] = refl
+objects_null i gone (Nothing ∷ hs) = objects_null (i + 1) gone hs
+objects_null i gone (Owned c ∷ hs) = ap (λ (xs : List Object). cell_object (cell_value c) (is_in i gone) ∷ xs) (objects_null (i + 1) gone hs)
 
-pub objects_ptr : (hs : List (Option Value)) (w : Value) → objects_of (hs ++ Some w ∷ []) ≡ objects_of hs ++ cell_object w ∷ []
-objects_ptr [] w = refl
-objects_ptr (None ∷ hs) w = objects_ptr hs w
-objects_ptr (Some v ∷ hs) w = ap (λ (xs : List Object). cell_object v ∷ xs) (objects_ptr hs w)
+-- the object of the next variable y, which is not gone
+pub objects_ptr : (i y : ℕ) (gone : List ℕ) (hs : List Holding) (c : Option ℤ) → y ≡ i + length hs → is_in y gone ≡ false →
+    objects_of i gone (hs ++ Owned c ∷ []) ≡ objects_of i gone hs ++ cell_object (cell_value c) false ∷ []
+objects_ptr i y gone [] c n h =
+    let e : i ≡ y = omega arith in
+    ap (λ (b : Bool). cell_object (cell_value c) b ∷ []) (ap (λ (x : ℕ). is_in x gone) e ∙ h)
+objects_ptr i y gone (Nothing ∷ hs) c n h = let m : y ≡ i + suc (length hs) = n in objects_ptr (i + 1) y gone hs c (omega arith) h
+objects_ptr i y gone (Owned b ∷ hs) c n h =
+    let m : y ≡ i + suc (length hs) = n in
+    ap (λ (xs : List Object). cell_object (cell_value b) (is_in i gone) ∷ xs) (objects_ptr (i + 1) y gone hs c (omega arith) h)
 
 -- the place between two lists
 
@@ -57,75 +76,103 @@ pub set_seam : {A : Type 0} (xs : List A) (x y : A) (ys : List A) → slice_set 
 set_seam [] x y ys = refl
 set_seam (a ∷ xs) x y ys = ap (λ (zs : List _). a ∷ zs) (set_seam xs x y ys)
 
-pub altered_seam : {A : Type 0} (f : A → A) (xs : List A) (x : A) (ys : List A) → altered f (length xs) (xs ++ x ∷ ys) ≡ (xs ++ f x ∷ []) ++ ys
-altered_seam f [] x ys = refl
-altered_seam f (a ∷ xs) x ys = ap (λ (zs : List _). a ∷ zs) (altered_seam f xs x ys)
+-- a variable that goes is gone, and no other
+pub is_in_first : (y : ℕ) (gone : List ℕ) → is_in y (y ∷ gone) ≡ true
+is_in_first y gone = ap (λ (b : Bool). b || is_in y gone) (eq-eqb y y refl)
 
--- nothing is freed
-pub none_freed : (hs : List (Option Value)) (o : ℕ) → is_freed (objects_of hs) o ≡ false
-none_freed [] o = refl
-none_freed (None ∷ hs) o = none_freed hs o
-none_freed (Some v ∷ hs) zero = refl
-none_freed (Some v ∷ hs) (suc o) = none_freed hs o
+pub is_in_other : (x y : ℕ) (gone : List ℕ) → (x ≡ y → ⊥) → is_in x (y ∷ gone) ≡ is_in x gone
+is_in_other x y gone apart = ap (λ (b : Bool). b || is_in x gone) (ne_eqb x y apart)
+
+-- the objects of the later variables stay
+later_stay : (i y : ℕ) (gone : List ℕ) (hs : List Holding) → y < i → objects_of i (y ∷ gone) hs ≡ objects_of i gone hs
+later_stay i y gone [] h = refl
+later_stay i y gone (Nothing ∷ hs) h = later_stay (i + 1) y gone hs (omega arith)
+later_stay i y gone (Owned c ∷ hs) h =
+    ap (λ (b : Bool). cell_object (cell_value c) b ∷ objects_of (i + 1) (y ∷ gone) hs) (is_in_other i y gone (λ e. omega arith))
+    ∙ ap (λ (os : List Object). cell_object (cell_value c) (is_in i gone) ∷ os) (later_stay (i + 1) y gone hs (omega arith))
 
 -- another content of object o changes no slot
-pub record Rewritten (k : ℕ) (hs : List (Option Value)) (o : ℕ) (w : Value) : Type 0 where
-  pub other : List (Option Value)
+pub record Rewritten (k i : ℕ) (gone : List ℕ) (hs : List Holding) (o : ℕ) (n : ℤ) : Type 0 where
+  pub other : List Holding
   pub count : length other ≡ length hs
   pub slots : slots_of k other ≡ slots_of k hs
-  pub objects : altered (with_cell 0 w) o (objects_of hs) ≡ objects_of other
+  pub objects : altered (with_cell 0 (value.Int n)) o (objects_of i gone hs) ≡ objects_of i gone other
 
--- what variable x holds
-pub data Looks (k : ℕ) (hs : List (Option Value)) (later : List Value) (x : ℕ) : Type 0 where
-  empty : slot_of (slots_of k hs ++ later) x ≡ value.Null → Looks k hs later x
-  full : (o : ℕ) (v : Value) → slot_of (slots_of k hs ++ later) x ≡ value.Ptr (k + o) → slice_get (objects_of hs) o ≡ Some (cell_object v)
-      → ((w : Value) → Rewritten k hs o w) → Looks k hs later x
+-- what the variable of number y in slot x holds, and what its free does
+pub data Looks (k i : ℕ) (gone : List ℕ) (hs : List Holding) (later : List Value) (x y : ℕ) : Type 0 where
+  empty : slot_of (slots_of k hs ++ later) x ≡ value.Null → objects_of i gone hs ≡ objects_of i (y ∷ gone) hs → Looks k i gone hs later x y
+  full : (o : ℕ) (c : Option ℤ) → slot_of (slots_of k hs ++ later) x ≡ value.Ptr (k + o)
+      → slice_get (objects_of i gone hs) o ≡ Some (cell_object (cell_value c) (is_in y gone))
+      → ((n : ℤ) → Rewritten k i gone hs o n) → altered dead o (objects_of i gone hs) ≡ objects_of i (y ∷ gone) hs → Looks k i gone hs later x y
 
-past_null : (k : ℕ) (hs : List (Option Value)) (later : List Value) (x : ℕ) → Looks k hs later x → Looks k (None ∷ hs) later (suc x)
-past_null k hs later x (empty e) = empty e
-past_null k hs later x (full o v e g change) = full o v e g (λ w.
-    let r = change w in
-    record { other = None ∷ r.other; count = ap suc r.count; slots = ap (λ (xs : List Value). value.Null ∷ xs) r.slots; objects = r.objects })
+past_null : (k i : ℕ) (gone : List ℕ) (hs : List Holding) (later : List Value) (x y : ℕ) → Looks k (i + 1) gone hs later x y → Looks k i gone (Nothing ∷ hs) later (suc x) y
+past_null k i gone hs later x y (empty e stay) = empty e stay
+past_null k i gone hs later x y (full o c e g change goes) = full o c e g (λ n.
+    let r = change n in
+    record { other = Nothing ∷ r.other; count = ap suc r.count; slots = ap (λ (xs : List Value). value.Null ∷ xs) r.slots; objects = r.objects }) goes
 
-past_ptr : (k : ℕ) (hs : List (Option Value)) (later : List Value) (u : Value) (x : ℕ) → Looks (k + 1) hs later x → Looks k (Some u ∷ hs) later (suc x)
-past_ptr k hs later u x (empty e) = empty e
-past_ptr k hs later u x (full o v e g change) =
-    let n : (k + 1) + o ≡ k + suc o = omega arith in
-    full (suc o) v (e ∙ ap value.Ptr n) g (λ w.
-    let r = change w in
-    record { other = Some u ∷ r.other; count = ap suc r.count; slots = ap (λ (xs : List Value). value.Ptr k ∷ xs) r.slots; objects = ap (λ (xs : List Object). cell_object u ∷ xs) r.objects })
+past_ptr : (k i : ℕ) (gone : List ℕ) (hs : List Holding) (later : List Value) (b : Option ℤ) (x y : ℕ) → i < y → Looks (k + 1) (i + 1) gone hs later x y → Looks k i gone (Owned b ∷ hs) later (suc x) y
+past_ptr k i gone hs later b x y h (empty e stay) =
+    let same : is_in i gone ≡ is_in i (y ∷ gone) = sym (is_in_other i y gone (λ e. omega arith)) in
+    empty e (ap (λ (d : Bool). cell_object (cell_value b) d ∷ objects_of (i + 1) gone hs) same
+    ∙ ap (λ (xs : List Object). cell_object (cell_value b) (is_in i (y ∷ gone)) ∷ xs) stay)
+past_ptr k i gone hs later b x y h (full o c e g change goes) =
+    let m : (k + 1) + o ≡ k + suc o = omega arith in
+    let same : is_in i gone ≡ is_in i (y ∷ gone) = sym (is_in_other i y gone (λ e. omega arith)) in
+    full (suc o) c (e ∙ ap value.Ptr m) g (λ n.
+    let r = change n in
+    record { other = Owned b ∷ r.other; count = ap suc r.count; slots = ap (λ (xs : List Value). value.Ptr k ∷ xs) r.slots; objects = ap (λ (xs : List Object). cell_object (cell_value b) (is_in i gone) ∷ xs) r.objects })
+    (ap (λ (d : Bool). cell_object (cell_value b) d ∷ altered dead o (objects_of (i + 1) gone hs)) same
+    ∙ ap (λ (xs : List Object). cell_object (cell_value b) (is_in i (y ∷ gone)) ∷ xs) goes)
 
-pub looks : (k : ℕ) (hs : List (Option Value)) (later : List Value) (x : ℕ) → x < length hs → Looks k hs later x
-looks k [] later x h = absurd (omega arith)
-looks k (None ∷ hs) later zero h = empty refl
-looks k (None ∷ hs) later (suc x) h = past_null k hs later x (looks k hs later x (omega arith))
-looks k (Some v ∷ hs) later zero h =
+looks_first : (k i : ℕ) (gone : List ℕ) (c : Option ℤ) (hs : List Holding) (later : List Value) → Looks k i gone (Owned c ∷ hs) later 0 i
+looks_first k i gone c hs later =
     let e : k ≡ k + 0 = omega arith in
-    full 0 v (ap value.Ptr e) refl (λ w. record { other = Some w ∷ hs; count = refl; slots = refl; objects = refl })
-looks k (Some v ∷ hs) later (suc x) h = past_ptr k hs later v x (looks (k + 1) hs later x (omega arith))
+    full 0 c (ap value.Ptr e) refl (λ n. record { other = Owned (Some n) ∷ hs; count = refl; slots = refl; objects = refl })
+    (ap (λ (d : Bool). cell_object (cell_value c) d ∷ objects_of (i + 1) gone hs) (sym (is_in_first i gone))
+    ∙ ap (λ (xs : List Object). cell_object (cell_value c) (is_in i (i ∷ gone)) ∷ xs) (sym (later_stay (i + 1) i gone hs (omega arith))))
+
+pub looks : (k i : ℕ) (gone : List ℕ) (hs : List Holding) (later : List Value) (x y : ℕ) → y ≡ i + x → x < length hs → Looks k i gone hs later x y
+looks k i gone [] later x y n h = absurd (omega arith)
+looks k i gone (Nothing ∷ hs) later zero y n h = empty refl (sym (later_stay (i + 1) y gone hs (omega arith)))
+looks k i gone (Nothing ∷ hs) later (suc x) y n h = let m : y ≡ i + suc x = n in past_null k i gone hs later x y (looks k (i + 1) gone hs later x y (omega arith) (omega arith))
+looks k i gone (Owned c ∷ hs) later zero y n h = let e : i ≡ y = omega arith in subst (λ (z : ℕ). Looks k i gone (Owned c ∷ hs) later 0 z) e (looks_first k i gone c hs later)
+looks k i gone (Owned c ∷ hs) later (suc x) y n h =
+    let m : y ≡ i + suc x = n in
+    past_ptr k i gone hs later c x y (omega arith) (looks (k + 1) (i + 1) gone hs later x y (omega arith) (omega arith))
+
+-- where all variables are gone, all objects are freed
+pub all_gone : (i : ℕ) (gone : List ℕ) (hs : List Holding) → ((x : ℕ) → i ≤ x → x < i + length hs → is_in x gone ≡ true) → All (λ o. IsTrue o.freed) (objects_of i gone hs)
+all_gone i gone [] h = All-nil (λ (o : Object). IsTrue o.freed)
+all_gone i gone (Nothing ∷ hs) h = all_gone (i + 1) gone hs (λ x from below. h x (omega arith) (let b : x < (i + 1) + length hs = below in let t : x < i + suc (length hs) = omega arith in t))
+all_gone i gone (Owned c ∷ hs) h =
+    let gone_first : is_in i gone ≡ true = h i (omega arith) (let t : i < i + suc (length hs) = omega arith in t) in
+    All-cons (λ (o : Object). IsTrue o.freed) (cell_object (cell_value c) (is_in i gone)) (objects_of (i + 1) gone hs) gone_first
+    (all_gone (i + 1) gone hs (λ x from below. h x (omega arith) (let b : x < (i + 1) + length hs = below in let t : x < i + suc (length hs) = omega arith in t)))
 
 -- a declared variable holds what malloc answers
-abbrev pub given : Bool → Option Value
-given true = None
-given false = Some value.Undef
+abbrev pub given : Bool → Holding
+given true = Nothing
+given false = Owned None
 
-pub granted_held : (b : Bool) (path : List ℕ) (hs : List (Option Value)) (v : Value) (later : List Value) (input : List ℕ) (fails : List Bool) (output : List ℕ) (steps : ℕ) →
-    granted (Some (Slot (length hs))) (pos 1) b (running path (slots_of 0 hs ++ v ∷ later) (objects_of hs) input fails output steps)
-    ≡ running path (slots_of 0 (hs ++ given b ∷ []) ++ later) (objects_of (hs ++ given b ∷ [])) input fails output steps
-granted_held true path hs v later input fails output steps =
-    let s : slice_set (slots_of 0 hs ++ v ∷ later) (length hs) value.Null ≡ slots_of 0 (hs ++ None ∷ []) ++ later =
+pub granted_held : (b : Bool) (path gone : List ℕ) (hs : List Holding) (v : Value) (later : List Value) (input : List ℕ) (fails : List Bool) (output : List ℕ) (steps : ℕ) → is_in (length hs) gone ≡ false →
+    granted (Some (Slot (length hs))) (pos 1) b (running path (slots_of 0 hs ++ v ∷ later) (objects_of 0 gone hs) input fails output steps)
+    ≡ running path (slots_of 0 (hs ++ given b ∷ []) ++ later) (objects_of 0 gone (hs ++ given b ∷ [])) input fails output steps
+granted_held true path gone hs v later input fails output steps fresh =
+    let s : slice_set (slots_of 0 hs ++ v ∷ later) (length hs) value.Null ≡ slots_of 0 (hs ++ Nothing ∷ []) ++ later =
     ap (λ (n : ℕ). slice_set (slots_of 0 hs ++ v ∷ later) n value.Null) (sym (length-slots 0 hs))
     ∙ set_seam (slots_of 0 hs) v value.Null later
     ∙ ap (λ (xs : List Value). xs ++ later) (sym (slots_null 0 hs)) in
-    ap (λ (xs : List Value). running path xs (objects_of hs) input fails output steps) s
-    ∙ ap (λ (xs : List Object). running path (slots_of 0 (hs ++ None ∷ []) ++ later) xs input fails output steps) (sym (objects_null hs))
-granted_held false path hs v later input fails output steps =
-    let z : 0 + length (objects_of hs) ≡ length (objects_of hs) = omega arith in
-    let p : slots_of 0 (hs ++ Some value.Undef ∷ []) ≡ slots_of 0 hs ++ value.Ptr (length (objects_of hs)) ∷ [] =
-    slots_ptr 0 hs value.Undef ∙ ap (λ (o : ℕ). slots_of 0 hs ++ value.Ptr o ∷ []) z in
-    let s : slice_set (slots_of 0 hs ++ v ∷ later) (length hs) (value.Ptr (length (objects_of hs))) ≡ slots_of 0 (hs ++ Some value.Undef ∷ []) ++ later =
-    ap (λ (n : ℕ). slice_set (slots_of 0 hs ++ v ∷ later) n (value.Ptr (length (objects_of hs)))) (sym (length-slots 0 hs))
-    ∙ set_seam (slots_of 0 hs) v (value.Ptr (length (objects_of hs))) later
+    ap (λ (xs : List Value). running path xs (objects_of 0 gone hs) input fails output steps) s
+    ∙ ap (λ (xs : List Object). running path (slots_of 0 (hs ++ Nothing ∷ []) ++ later) xs input fails output steps) (sym (objects_null 0 gone hs))
+granted_held false path gone hs v later input fails output steps fresh =
+    let z : 0 + length (objects_of 0 gone hs) ≡ length (objects_of 0 gone hs) = omega arith in
+    let p : slots_of 0 (hs ++ Owned None ∷ []) ≡ slots_of 0 hs ++ value.Ptr (length (objects_of 0 gone hs)) ∷ [] =
+    slots_ptr 0 0 gone hs None ∙ ap (λ (o : ℕ). slots_of 0 hs ++ value.Ptr o ∷ []) z in
+    let s : slice_set (slots_of 0 hs ++ v ∷ later) (length hs) (value.Ptr (length (objects_of 0 gone hs))) ≡ slots_of 0 (hs ++ Owned None ∷ []) ++ later =
+    ap (λ (n : ℕ). slice_set (slots_of 0 hs ++ v ∷ later) n (value.Ptr (length (objects_of 0 gone hs)))) (sym (length-slots 0 hs))
+    ∙ set_seam (slots_of 0 hs) v (value.Ptr (length (objects_of 0 gone hs))) later
     ∙ ap (λ (xs : List Value). xs ++ later) (sym p) in
-    ap (λ (xs : List Value). running path xs (objects_of hs ++ cell_object value.Undef ∷ []) input fails output steps) s
-    ∙ ap (λ (xs : List Object). running path (slots_of 0 (hs ++ Some value.Undef ∷ []) ++ later) xs input fails output steps) (sym (objects_ptr hs value.Undef))
+    let y : length hs ≡ 0 + length hs = omega arith in
+    ap (λ (xs : List Value). running path xs (objects_of 0 gone hs ++ cell_object value.Undef false ∷ []) input fails output steps) s
+    ∙ ap (λ (xs : List Object). running path (slots_of 0 (hs ++ Owned None ∷ []) ++ later) xs input fails output steps) (sym (objects_ptr 0 (length hs) gone hs None y fresh))

@@ -1,6 +1,7 @@
 pub mod Evals
 pub mod Flat
 pub mod Held
+pub mod Freed
 pub mod Items
 pub mod Plain
 pub mod Returns

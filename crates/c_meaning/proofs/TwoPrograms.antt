@@ -1,9 +1,9 @@
 -- Computed runs of two more programs, each with no free and with all its frees before the return:
--- step by step they have the same ending, output and input left, whatever malloc answers.
+-- step by step they have the same ending, output and input left, whatever malloc answers. The second
+-- also with frees before its store.
 --   int main(void) { int *p = malloc(sizeof(int)); return 5; }
 --   int main(void) { int *p = malloc(sizeof(int)); int *q = malloc(sizeof(int)); *q = 3; return 0; }
-use Rattle.std.proofs.Common.{◌≡◌, ℕ, zero, suc, ◌+◌, Bool, true, false, ℤ, pos, List, [], ◌∷◌, Some, None, codes, refl, sym, ap, ◌∙◌}
-use Rattle.c_tree.specs.declared.expr.Expr.{Expr}
+use Rattle.std.proofs.Common.{◌≡◌, ℕ, zero, suc, ◌<◌, arith, Bool, true, false, ℤ, pos, List, [], ◌∷◌, Some, None, codes, refl, ap, ◌∙◌}
 use Rattle.c_tree.specs.declared.expr.Expr.TheVariants as expr
 use Rattle.c_tree.specs.declared.expr.Op.TheVariants.{Put}
 use Rattle.c_tree.specs.declared.program.Block.{roll-Block, out-roll-Block}
@@ -26,8 +26,11 @@ use Rattle.c_meaning.specs.declared.machine.Ending.{Ending}
 use Rattle.c_meaning.specs.declared.machine.Ending.TheVariants.{Running, Returned, Fault}
 use Rattle.c_meaning.specs.declared.machine.Machine.{Machine}
 use Rattle.c_meaning.specs.Step.{step}
-use Rattle.c_meaning.specs.Safe.{run}
-use Rattle.c_meaning.proofs.Evals.{eval_var, eval_const, eval_deref, place_deref}
+use Rattle.c_meaning.specs.Frees.{is_in, none, more}
+use Rattle.c_meaning.specs.Safe.{run, Safe}
+use Rattle.c_meaning.proofs.Plain.{IsPlain}
+use Rattle.c_meaning.proofs.Courses.{ends, goes, safe_course}
+use Rattle.c_meaning.proofs.Evals.{eval_var, eval_const, place_deref}
 
 abbrev makes : ℕ → Item
 makes x = item.Declare (record { var = x; right = Some (right.Call (Malloc (Ints None) 0)); at = 0 } ∷ [])
@@ -150,3 +153,37 @@ two_null frees = simp (out-roll-Block, item.outs-Declare, expr.outs-Var)
 
 two_broken : (frees : List Free) → (run (two frees) [] (false ∷ true ∷ []) 3).ending ≡ Fault kind.NullDeref 9 false
 two_broken frees = ap (λ (m : Machine). (step (two frees) m).ending) (two_null frees) ∙ simp (out-roll-Block, item.outs-Assign, eval_var, place_deref)
+
+-- frees before the store and before the return
+abbrev two_gaps : List Free → List Free → Program
+two_gaps early late = program (pointer ∷ pointer ∷ result ∷ [])
+    (behind_gap 0 [] (makes 0) ∷ behind_gap 1 [] (makes 1) ∷ behind_gap 2 early (stores 1 (pos 3)) ∷ behind_gap 3 late (gives (pos 0)) ∷ []) 5
+
+-- each free behind the last use of its variable
+abbrev two_early : Program
+two_early = two_gaps (free_of 0 ∷ []) (free_of 1 ∷ [])
+
+gaps_second : (early late : List Free) → run (two_gaps early late) [] [] 2 ≡ before 2 (slots_of (value.Ptr 0) (value.Ptr 1)) (cell value.Undef false ∷ cell value.Undef false ∷ []) [] 2
+gaps_second early late = simp (out-roll-Block, item.outs-Declare, expr.outs-Var)
+
+early_third : run two_early [] [] 3 ≡ before 3 (slots_of (value.Ptr 0) (value.Ptr 1)) (cell value.Undef true ∷ cell (value.Int (pos 3)) false ∷ []) [] 3
+early_third = ap (step two_early) (gaps_second (free_of 0 ∷ []) (free_of 1 ∷ [])) ∙ simp (out-roll-Block, item.outs-Assign, expr.outs-Var, eval_var, eval_const, place_deref)
+
+early_freed : run two_early [] [] 4 ≡ over (before 3 (slots_of (value.Ptr 0) (value.Ptr 1)) (cell value.Undef true ∷ cell (value.Int (pos 3)) true ∷ []) [] 4) (Returned (pos 0))
+early_freed = ap (step two_early) early_third ∙ simp (out-roll-Block, item.outs-Return, expr.outs-Var, eval_const)
+
+early_safe : Safe two_early
+early_safe = safe_course {k = pos 0} {l = 2} two_early 4 refl refl (omega arith)
+    (goes (record { gap = simp (out-roll-Block); entered = simp (out-roll-Block, item.outs-Declare); action = simp (out-roll-Block, item.outs-Declare) }) (simp (out-roll-Block, item.outs-Declare)) none (IsPlain.declares 0) tt
+    (goes (record { gap = simp (out-roll-Block); entered = simp (out-roll-Block, item.outs-Declare); action = simp (out-roll-Block, item.outs-Declare) }) (simp (out-roll-Block, item.outs-Declare)) none (IsPlain.declares 0) tt
+    (goes (record { gap = simp (out-roll-Block); entered = simp (out-roll-Block, item.outs-Assign); action = simp (out-roll-Block, item.outs-Assign) }) (simp (out-roll-Block, item.outs-Assign)) (more 0 0 0 0 (omega arith) refl none) (IsPlain.stores 1 0 9 (pos 3) 0 0 (omega arith)) refl
+    (ends 0 (record { gap = simp (out-roll-Block); entered = simp (out-roll-Block, item.outs-Return); action = simp (out-roll-Block, item.outs-Return) }) (more 1 0 0 0 (omega arith) refl none) both_gone))))
+  where
+    both_gone : (x : ℕ) → x < 2 → is_in x (1 ∷ 0 ∷ []) ≡ true
+    both_gone zero h = refl
+    both_gone (suc zero) h = refl
+    both_gone (suc (suc x)) h = absurd (omega arith)
+
+-- a variable is stored through behind its free
+used_late : (run (two_gaps (free_of 1 ∷ []) (free_of 0 ∷ [])) [] [] 3).ending ≡ Fault kind.UseAfterFree 0 false
+used_late = ap (λ (m : Machine). (step (two_gaps (free_of 1 ∷ []) (free_of 0 ∷ [])) m).ending) (gaps_second (free_of 1 ∷ []) (free_of 0 ∷ [])) ∙ simp (out-roll-Block, item.outs-Assign, expr.outs-Var, eval_var, place_deref)

@@ -1,5 +1,5 @@
 -- The frees of several variables, one after another.
-use Rattle.std.specs.Prelude.{◌≡◌, ℕ, ◌+◌, ◌<◌, Bool, true, false, ◌==◌, ◌||◌, List, [], ◌∷◌}
+use Rattle.std.specs.Prelude.{◌≡◌, ℕ, ◌+◌, ◌<◌, Bool, false, ◌||◌, ◌==◌, List, [], ◌∷◌}
 use Rattle.c_tree.specs.declared.expr.Expr.TheVariants.{Var}
 use Rattle.c_tree.specs.declared.program.Free.{Free}
 
