@@ -1,0 +1,167 @@
+-- The repaired text reads as the filled program.
+use Rattle.std.proofs.Common.{◌≡◌, ◌⊎◌, inl, inr, ℕ, suc, Bool, true, false, List, [], ◌∷◌, ◌++◌, length, map, All, Option, Some, None, option_map, refl, sym, ◌∙◌, ap, subst}
+use Rattle.std.specs.Prelude.{slice_get, if◌then◌else◌}
+use Rattle.std.specs.List.{AllByRecursion}
+use Rattle.std.proofs.lemmas.List.Elements.{All-from_recursion}
+use Rattle.c_lexer.specs.declared.token.Token.{Token}
+use Rattle.c_lexer.specs.Scan.{HasTokens}
+use Rattle.c_tree.specs.declared.choice.Put.{Put}
+use Rattle.c_tree.specs.declared.program.VarDef.{VarDef}
+use Rattle.c_tree.specs.declared.program.Program.{Program}
+use Rattle.c_tree.specs.Fill.{fill}
+use Rattle.c_tree.specs.Alike.{IsAlike}
+use Rattle.c_meaning.specs.Safe.{Safe, Same}
+use Rattle.c_meaning.proofs.Alikes.{same_repair}
+use Rattle.memfix_engine.specs.declared.draft.Step.{Step}
+use Rattle.memfix_engine.specs.declared.draft.Draft.{Draft}
+use Rattle.memfix_engine.specs.declared.edit.Change.{Change}
+use Rattle.memfix_engine.specs.declared.reading.Reading.{Reading}
+use Rattle.memfix_engine.specs.FreeText.{IsName}
+use Rattle.memfix_engine.specs.Form.{IsForm, is_main}
+use Rattle.memfix_engine.specs.Reading.{read_from, nothing_read, whole_of}
+use Rattle.memfix_engine.specs.Reads.{IsFirst, Reads}
+use Rattle.memfix_engine.specs.Edit.{changes, changed, edited}
+use Rattle.memfix_engine.specs.Own.{fits, own_puts}
+use Rattle.memfix_engine.specs.Repair.{return_puts, choice_of, Repairs}
+use Rattle.memfix_engine.specs.Straight.{IsSound}
+use Rattle.memfix_engine.proofs.Emptied.{cleared, releases, insertion, marked_blanks}
+use Rattle.memfix_engine.proofs.TextLemmas.{AllNamed, tokens_named}
+use Rattle.memfix_engine.proofs.SoundLemmas.{Steps-named, read_sound}
+use Rattle.memfix_engine.proofs.StraightRuns.{safe_clear, safe_own}
+use Rattle.memfix_engine.proofs.EditAlike.{alike_return, alike_own, unchanged_own, clear_of}
+use Rattle.memfix_engine.proofs.EditSteps.{IsMarked, marked}
+use Rattle.memfix_engine.proofs.EditText.{IsEdited, edited_form}
+
+-- the text w reads as a program that is p filled by these puts, is safe, and does the same as p
+record ReadsFilled (w : List ℕ) (p : Program) (puts : List Put) : Type 0 where
+  filled : Program
+  reads : Reads w filled
+  alike : IsAlike filled (fill p (record { puts = puts }))
+  safe : Safe filled
+  same : Same p filled
+
+-- the parts of a program of the first form
+
+record HasReading (d : Draft) (o : Option Reading) (p : Program) : Type 0 where
+  reading : Reading
+  found : o ≡ Some reading
+  is : p ≡ whole_of d reading
+
+some_whole : (p q : Program) → Some q ≡ Some p → p ≡ q
+some_whole p q h = cc
+
+program_reading : (d : Draft) (p : Program) (o : Option Reading) → option_map (whole_of d) o ≡ Some p → HasReading d o p
+program_reading d p None h = absurd cc
+program_reading d p (Some r) h = record { reading = r; found = refl; is = some_whole p (whole_of d r) h }
+
+named_behind : (xs ys : List Token) → AllNamed (xs ++ ys) → AllNamed ys
+named_behind [] ys h = h
+named_behind (x ∷ xs) ys h = named_behind xs ys h.1
+
+named_before : (xs ys : List Token) → AllNamed (xs ++ ys) → AllNamed xs
+named_before [] ys h = tt
+named_before (x ∷ xs) ys h = (h.0, named_before xs ys h.1)
+
+sound_of : (b : List ℕ) (ts : List Token) (d : Draft) (r : Reading) → HasTokens b ts → (form : IsForm ts d) → read_from nothing_read d.steps ≡ Some r → IsSound r
+sound_of b ts d r scanned form read =
+    let all : AllNamed (form.head ++ (form.body ++ form.tail)) = subst AllNamed form.whole (tokens_named b ts scanned) in
+    let body : AllNamed form.body = named_before form.body form.tail (named_behind form.head (form.body ++ form.tail) all) in
+    read_sound d.steps r (Steps-named form.steps body) read
+
+-- the program's own frees
+
+own_filled : (b : List ℕ) (ts : List Token) (d : Draft) (r : Reading) → HasTokens b ts → IsForm ts d → IsSound r → read_from nothing_read d.steps ≡ Some r → fits (whole_of d r) ≡ true
+    → ReadsFilled b (whole_of d r) (own_puts (whole_of d r))
+own_filled b ts d r scanned form sound read fitting =
+    let safe = safe_own d r sound fitting in
+    let alike = alike_own d r sound in
+    record {
+      filled = whole_of d r;
+      reads = record { tokens = ts; scanned = scanned; first = record { draft = d; form = form; program = ap (option_map (whole_of d)) read } };
+      alike = alike;
+      safe = safe;
+      same = same_repair (whole_of d r) (whole_of d r) (record { puts = own_puts (whole_of d r) }) alike safe;
+    }
+
+own_text : (b : List ℕ) (ts : List Token) (d : Draft) (r : Reading) → IsSound r → edited b ts (whole_of d r) (record { puts = own_puts (whole_of d r) }) ≡ b
+own_text b ts d r sound = ap (λ (cs : List Change). changed 0 cs b) (unchanged_own ts d r sound)
+
+-- all frees before the return
+
+AreNames : (ws : List VarDef) → ((k : ℕ) (w : VarDef) → slice_get ws k ≡ Some w → IsName w.name) → AllByRecursion IsName (map (λ w. w.name) ws)
+AreNames [] h = tt
+AreNames (w ∷ ws) h = (h 0 w refl, AreNames ws (λ k v g. h (suc k) v g))
+
+are_other : (ws : List VarDef) → ((k : ℕ) (w : VarDef) → slice_get ws k ≡ Some w → is_main w.name ≡ false) → AllByRecursion (λ x. is_main x ≡ false) (map (λ w. w.name) ws)
+are_other [] h = tt
+are_other (w ∷ ws) h = (h 0 w refl, are_other ws (λ k v g. h (suc k) v g))
+
+all_names : (r : Reading) (names : List (List ℕ)) → IsSound r → (names ≡ []) ⊎ (names ≡ map (λ v. v.name) r.vars) → All IsName names
+all_names r names sound (inl e) = subst (λ xs. All IsName xs) (sym e) (All-from_recursion IsName [] tt)
+all_names r names sound (inr e) = subst (λ xs. All IsName xs) (sym e) (All-from_recursion IsName (map (λ v. v.name) r.vars) (AreNames r.vars sound.named))
+
+all_other : (r : Reading) (names : List (List ℕ)) → IsSound r → (names ≡ []) ⊎ (names ≡ map (λ v. v.name) r.vars) → All (λ x. is_main x ≡ false) names
+all_other r names sound (inl e) = subst (λ xs. All (λ x. is_main x ≡ false) xs) (sym e) (All-from_recursion (λ x. is_main x ≡ false) [] tt)
+all_other r names sound (inr e) = subst (λ xs. All (λ x. is_main x ≡ false) xs) (sym e) (All-from_recursion (λ x. is_main x ≡ false) (map (λ v. v.name) r.vars) (are_other r.vars sound.other))
+
+return_filled : (b : List ℕ) (ts : List Token) (d : Draft) (r : Reading) → HasTokens b ts → IsForm ts d → IsSound r → read_from nothing_read d.steps ≡ Some r
+    → ReadsFilled (edited b ts (whole_of d r) (record { puts = return_puts (whole_of d r) })) (whole_of d r) (return_puts (whole_of d r))
+return_filled b ts d r scanned form sound read =
+    let m = marked ts d r sound read in
+    let e = edited_form b ts d m.marks m.names scanned form m.valid (all_names r m.names sound m.named) (all_other r m.names sound m.named) in
+    let f = m.frees e.steps e.emptied in
+    let q : Reading = cleared r f.frees in
+    let text : edited b ts (whole_of d r) (record { puts = return_puts (whole_of d r) }) ≡ changed 0 (marked_blanks ts m.marks d.steps ++ map (insertion d.return_at) m.names) b =
+    ap (λ (cs : List Change). changed 0 cs b) m.changes_are in
+    let program : option_map (whole_of e.draft) (read_from nothing_read e.draft.steps) ≡ Some (whole_of e.draft q) =
+    ap (λ (ss : List Step). option_map (whole_of e.draft) (read_from nothing_read ss)) e.steps_are ∙ ap (option_map (whole_of e.draft)) f.read in
+    let alike = alike_return d e.draft r f.frees sound e.number f.all in
+    let safe = safe_clear e.draft q (clear_of sound.pieces) f.all in
+    record {
+      filled = whole_of e.draft q;
+      reads = record {
+        tokens = e.tokens;
+        scanned = subst (λ w. HasTokens w e.tokens) (sym text) e.scanned;
+        first = record { draft = e.draft; form = e.form; program = program };
+      };
+      alike = alike;
+      safe = safe;
+      same = same_repair (whole_of d r) (whole_of e.draft q) (record { puts = return_puts (whole_of d r) }) alike safe;
+    }
+
+-- the choice, by whether the program's own frees fit
+
+chosen : (b : List ℕ) (ts : List Token) (d : Draft) (r : Reading) → HasTokens b ts → IsForm ts d → IsSound r → read_from nothing_read d.steps ≡ Some r → (own : Bool) → fits (whole_of d r) ≡ own
+    → let puts : List Put = if own then own_puts (whole_of d r) else return_puts (whole_of d r) in
+      ReadsFilled (edited b ts (whole_of d r) (record { puts = puts })) (whole_of d r) puts
+chosen b ts d r scanned form sound read true fitting =
+    subst (λ w. ReadsFilled w (whole_of d r) (own_puts (whole_of d r))) (sym (own_text b ts d r sound)) (own_filled b ts d r scanned form sound read fitting)
+chosen b ts d r scanned form sound read false fitting = return_filled b ts d r scanned form sound read
+
+kept_text : (b : List ℕ) (ts : List Token) (d : Draft) (r : Reading) → IsSound r → fits (whole_of d r) ≡ true → edited b ts (whole_of d r) (choice_of (whole_of d r)) ≡ b
+kept_text b ts d r sound fitting =
+    ap (λ (own : Bool). let puts : List Put = if own then own_puts (whole_of d r) else return_puts (whole_of d r) in edited b ts (whole_of d r) (record { puts = puts })) fitting
+    ∙ own_text b ts d r sound
+
+-- the edit of a text of the first form repairs it
+pub repaired : (b w : List ℕ) (ts : List Token) (p : Program) → HasTokens b ts → IsFirst ts p → w ≡ edited b ts p (choice_of p) → Repairs b w
+repaired b w ts p scanned first e =
+    let d = first.draft in
+    let found = program_reading d p (read_from nothing_read d.steps) first.program in
+    let r = found.reading in
+    let sound = sound_of b ts d r scanned first.form found.found in
+    let whole : p ≡ whole_of d r = found.is in
+    let f = chosen b ts d r scanned first.form sound found.found (fits (whole_of d r)) refl in
+    let g : ReadsFilled (edited b ts p (choice_of p)) p (choice_of p).puts = subst (λ (q : Program). ReadsFilled (edited b ts q (choice_of q)) q (choice_of q).puts) (sym whole) f in
+    let kept : fits p ≡ true → edited b ts p (choice_of p) ≡ b = subst (λ (q : Program). fits q ≡ true → edited b ts q (choice_of q) ≡ b) (sym whole) (kept_text b ts d r sound) in
+    record {
+      program = p;
+      filled = g.filled;
+      built = record { tokens = ts; scanned = scanned; first = first };
+      edits = e;
+      reads = subst (λ (x : List ℕ). Reads x g.filled) (sym e) g.reads;
+      alike = g.alike;
+      safe = g.safe;
+      same = g.same;
+      kept = λ h. e ∙ kept h;
+    }
