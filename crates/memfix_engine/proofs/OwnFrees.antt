@@ -24,7 +24,7 @@ use Rattle.memfix_engine.specs.Straight.{IsStraight, AreFrees, Straight, gap_wit
 use Rattle.memfix_engine.proofs.Counts.{times, times_count, times-append, times_none, times_some, times_first, and_first, and_second, behind, times_moved, times-behind, Apart, Apart-none, Apart-behind, Apart-first, Apart-rest, range_each}
 use Rattle.memfix_engine.proofs.StraightCourses.{UsesNone, FreesAlong, ends, goes, return_piece}
 
--- the variables of frees, and of those before an item
+-- the variables that frees free, and those that the gap before an item frees
 abbrev pub variables : List Free → List ℕ
 variables fs = flat_map (λ f. variable f.expr) fs
 

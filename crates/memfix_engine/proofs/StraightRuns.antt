@@ -18,7 +18,7 @@ use Rattle.memfix_engine.proofs.Emptied.{Clear}
 use Rattle.memfix_engine.proofs.StraightCourses.{UsesNone, FreesAlong, ends, goes, safe_along}
 use Rattle.memfix_engine.proofs.OwnFrees.{own_along}
 
--- frees of all variables, the first x of which are gone
+-- frees behind which all n variables are gone
 record AllFreed (n : ℕ) (gone : List ℕ) (fs : List Free) : Type 0 where
   pub now : List ℕ
   pub frees : Frees n gone fs now
