@@ -1,6 +1,10 @@
+pub mod Counts
 pub mod EditLemmas
 pub mod Emptied
 pub mod FormLemmas
 pub mod FormTokens
+pub mod OwnFrees
+pub mod StraightCourses
+pub mod StraightRuns
 pub mod TextLemmas
 pub mod VarLemmas
