@@ -1,4 +1,6 @@
+pub mod EditChanges
 pub mod EditLemmas
+pub mod EditSteps
 pub mod Emptied
 pub mod FormLemmas
 pub mod FormTokens
