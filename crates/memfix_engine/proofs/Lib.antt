@@ -1,5 +1,7 @@
 pub mod Counts
+pub mod EditChanges
 pub mod EditLemmas
+pub mod EditSteps
 pub mod Emptied
 pub mod FormLemmas
 pub mod FormTokens
