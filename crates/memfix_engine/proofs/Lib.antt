@@ -1,3 +1,5 @@
+pub mod Blanks
+pub mod ChangeLemmas
 pub mod EditLemmas
 pub mod Emptied
 pub mod FormLemmas
