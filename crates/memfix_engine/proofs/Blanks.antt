@@ -1,8 +1,7 @@
 -- Tokens of a text that become blanks, and the marked `free` statements among its steps.
-use Rattle.std.proofs.Common.{◌≡◌, ℕ, ◌+◌, ◌-◌, ◌<◌, ◌≤◌, Bool, true, false, cond, ◌&&◌, nat_le, nat_lt, List, [], ◌∷◌, ◌++◌, length, take, drop, map, replicate, refl, sym, ◌∙◌, ap, subst, arith, append_assoc}
+use Rattle.std.proofs.Common.{◌≡◌, ℕ, ◌<◌, ◌≤◌, Bool, true, false, cond, ◌&&◌, nat_le, nat_lt, List, [], ◌∷◌, ◌++◌, length, map, refl, sym, ◌∙◌, ap, subst, arith, append_assoc, append-nil}
 use Rattle.std.specs.Prelude.{filter}
 use Rattle.std.proofs.lemmas.Bool.{le-leb, lt-leb, lt-ltb, le-ltb}
-use Rattle.std.proofs.lemmas.List.{map-append}
 use Rattle.std.proofs.lemmas.List.Elements.{filter-append}
 use Rattle.c_lexer.specs.declared.token.Token.{Token}
 use Rattle.c_lexer.specs.Scan.{HasTokens}
@@ -10,7 +9,7 @@ use Rattle.c_lexer.proofs.LocalPasses.{NoneRefused}
 use Rattle.memfix_engine.specs.declared.edit.Change.{Change}
 use Rattle.memfix_engine.specs.Edit.{blanked, changed}
 use Rattle.memfix_engine.proofs.ChangeLemmas.{Behind, Behind_before, changed_more}
-use Rattle.memfix_engine.proofs.TextLemmas.{Ascend, Ascend_le, tokens_blanked}
+use Rattle.memfix_engine.proofs.TextLemmas.{Ascend, Ascend_at, Ascend_le, tokens_blanked}
 
 -- some tokens become blanks, the others are kept
 pub data Kept : List Token → List Token → List Change → Type 0 where
@@ -123,3 +122,26 @@ none_behind a l from to (t ∷ ts) first last h =
     let next : from ≤ t.end = omega (arith, h.1) in
     skips (stands from to) t ts (right_fails (nat_le from t.start) (nat_lt t.end to) (le-leb from t.start start) (le-ltb t.end to end))
     ∙ none_behind t.end l from to ts next end h.2
+
+-- between the first and the last of some tokens there are these but the last
+pub within_only : (front more behind : List Token) (first last : Token) (l : ℕ) → Ascend 0 (front ++ first ∷ (more ++ last ∷ behind)) l
+    → filter (stands first.start last.end) (front ++ first ∷ (more ++ last ∷ behind)) ≡ first ∷ more
+within_only front more behind first last l h =
+    let p = stands first.start last.end in
+    let begun = Ascend_at 0 front (more ++ last ∷ behind) first l h in
+    let same : first.start ≤ first.start = omega arith in
+    let rest : Ascend first.start (first ∷ (more ++ last ∷ behind)) l = (same, begun.1, begun.2) in
+    let ended = Ascend_at first.start (first ∷ more) behind last l rest in
+    let none : filter p front ≡ [] = none_before 0 first.start last.end front begun.0 in
+    let all : filter p (first ∷ more) ≡ first ∷ more = all_within first.start last.start first.start last.end (first ∷ more) same ended.0 ended.1 in
+    let not_last : p last ≡ false =
+    right_fails (nat_le first.start last.start) (nat_lt last.end last.end)
+    (le-leb first.start last.start (Ascend_le first.start (first ∷ more) last.start ended.0)) (le-ltb last.end last.end (omega arith)) in
+    let no_more : filter p behind ≡ [] =
+    none_behind last.end l first.start last.end behind (omega (arith, Ascend_le first.start (first ∷ more) last.start ended.0, ended.1)) (omega arith) ended.2 in
+    filter-append p front (first ∷ (more ++ last ∷ behind))
+    ∙ ap (λ ts. ts ++ filter p (first ∷ (more ++ last ∷ behind))) none
+    ∙ filter-append p (first ∷ more) (last ∷ behind)
+    ∙ ap (λ ts. ts ++ filter p (last ∷ behind)) all
+    ∙ ap (λ ts. (first ∷ more) ++ ts) (skips p last behind not_last ∙ no_more)
+    ∙ append-nil (first ∷ more)

@@ -1,6 +1,7 @@
 pub mod Blanks
 pub mod ChangeLemmas
 pub mod EditLemmas
+pub mod EditText
 pub mod Emptied
 pub mod FormLemmas
 pub mod FormTokens
