@@ -1,7 +1,10 @@
+pub mod Blanks
+pub mod ChangeLemmas
 pub mod Counts
 pub mod EditChanges
 pub mod EditLemmas
 pub mod EditSteps
+pub mod EditText
 pub mod Emptied
 pub mod FormLemmas
 pub mod FormTokens
