@@ -10,6 +10,7 @@ pub mod LocalPiece
 pub mod Passes
 pub mod LocalPasses
 pub mod UpTo
+pub mod Fresh
 pub mod Total
 pub mod Answered
 mod Examples
