@@ -11,6 +11,7 @@ pub mod Passes
 pub mod LocalPasses
 pub mod UpTo
 pub mod Fresh
+pub mod Lexemes
 pub mod Total
 pub mod Answered
 mod Examples
