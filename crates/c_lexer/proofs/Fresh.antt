@@ -1,6 +1,6 @@
 -- Whether only blanks stand before on the line matters for a `#` alone: a text that begins with a token, and a text with
 -- no refused token, are read the same either way.
-use Rattle.std.proofs.Common.{◌≡◌, ℕ, ◌+◌, Bool, true, false, ◌&&◌, List, [], ◌∷◌, drop, nat_eq, sym, refl, ap, ◌∙◌, subst, ⊎_elim, arith}
+use Rattle.std.proofs.Common.{◌≡◌, ℕ, ◌+◌, Bool, true, false, ◌&&◌, List, [], ◌∷◌, drop, nat_eq, sym, ap, ◌∙◌, subst, ⊎_elim, arith}
 use Rattle.std.specs.Prelude.{codes}
 use Rattle.std.proofs.lemmas.Bool.{and_left, cond-true, cases_Bool, eqb-true}
 use Rattle.c_lexer.specs.declared.token.Kind.{Kind}
@@ -15,7 +15,7 @@ use Rattle.c_lexer.specs.Pieces.{IsPiece, IsPunctuator, include_line, first_plac
 use Rattle.c_lexer.specs.Scan.{Scan, ends, goes_on, width, GoesOn, fresh_behind, reading_from}
 use Rattle.c_lexer.proofs.LocalSpans.{line_end_parts}
 use Rattle.c_lexer.proofs.LocalPiece.{NotRefused, class_by, hash_refused}
-use Rattle.c_lexer.proofs.LocalPasses.{NoneRefused, accepted_first, accepted_rest}
+use Rattle.c_lexer.proofs.LocalPasses.{NoneRefused}
 use Rattle.c_lexer.proofs.Unique.{piece_unique}
 
 -- ---- the class

@@ -1,12 +1,11 @@
 -- What a piece says of its bytes: it is within the text, and a name is a letter or `_`, then letters, digits and `_`.
-use Rattle.std.proofs.Common.{◌≡◌, ℕ, zero, suc, ◌+◌, ◌<◌, ◌≤◌, Bool, true, false, ◌&&◌, List, [], ◌∷◌, ◌++◌, Option, Some, None, length, take, drop, nat_eq, sym, refl, ap, ◌∙◌, subst, ⊎_elim, arith, length-drop}
-use Rattle.std.specs.Prelude.{codes, ◌==◌, ℤ, cond}
+use Rattle.std.proofs.Common.{◌≡◌, ℕ, suc, ◌+◌, ◌<◌, ◌≤◌, Bool, true, false, ◌&&◌, List, [], ◌∷◌, ◌++◌, Option, Some, None, length, take, drop, nat_eq, sym, refl, ap, ◌∙◌, subst, ⊎_elim, arith, length-drop}
+use Rattle.std.specs.Prelude.{codes, ◌==◌, ℤ}
 use Rattle.std.specs.List.{prefix_len, list_all}
 use Rattle.std.proofs.lemmas.Bool.{and_left, and_parts, cond-true, cond-false, cases_Bool, false≢true}
 use Rattle.std.proofs.lemmas.Bool.Decides.{nat_tests}
 use Rattle.std.proofs.lemmas.List.{take_at}
 use Rattle.std.proofs.lemmas.List.Sums.{prefix_len-le-length}
-use Rattle.c_lexer.specs.declared.token.Kind.{Kind}
 use Rattle.c_lexer.specs.declared.token.Kind.TheVariants as kind
 use Rattle.c_lexer.specs.declared.piece.Class.{Class}
 use Rattle.c_lexer.specs.declared.piece.Class.TheVariants as class
@@ -16,7 +15,7 @@ use Rattle.c_lexer.specs.declared.piece.Piece.TheVariants as piece
 use Rattle.c_lexer.specs.declared.piece.Quote.{Quote}
 use Rattle.c_lexer.specs.declared.piece.Quote.TheVariants.{Double, Single}
 use Rattle.c_lexer.specs.declared.piece.Next.{Next}
-use Rattle.c_lexer.specs.declared.piece.Next.TheVariants.{Plain, Escape, Close, LineEnd, NoByte, NoEscape}
+use Rattle.c_lexer.specs.declared.piece.Next.TheVariants.{Close}
 use Rattle.c_lexer.specs.Bytes.{is_blank, is_digit, is_word_byte, is_number_byte, begins, begins_include, stops, class_of}
 use Rattle.c_lexer.specs.Words.{number_form, refused_word, key_word, punctuator, refused_punctuator, or_else, as_kind, or_name, kind_of_word}
 use Rattle.c_lexer.specs.Pieces.{next_of, Spells, none, plain, escape, IsQuoted, IsPunctuator, IsPiece, first_place, line_end, text_piece, one_character, character_piece, int_of, decimal_value, is_decimal, decimal_piece, number_by, word_piece}
@@ -246,7 +245,7 @@ name_piece w s b spelling ends =
     let len : prefix_len is_word_byte (w ++ b ∷ s) ≡ length w = run_all is_word_byte w s b spelling.word ends in
     let front : take (length w) (w ++ b ∷ s) ≡ w = take_at w (b ∷ s) (length w) refl in
     let word : word_piece (w ++ b ∷ s) ≡ piece.Lexeme (kind.Name w) (length w) =
-        ap (λ n. piece.Lexeme (kind_of_word (take n (w ++ b ∷ s))) n) len ∙ ap (λ u. piece.Lexeme (kind_of_word u) (length w)) front ∙ ap (λ k. piece.Lexeme k (length w)) spelling.named in
+    ap (λ n. piece.Lexeme (kind_of_word (take n (w ++ b ∷ s))) n) len ∙ ap (λ u. piece.Lexeme (kind_of_word u) (length w)) front ∙ ap (λ k. piece.Lexeme k (length w)) spelling.named in
     let of_class : class_of false (w ++ b ∷ s) ≡ class.Word = ap (λ u. class_of false (u ++ b ∷ s)) spelling.is ∙ word_class spelling.first (spelling.others ++ b ∷ s) spelling.no_digit spelling.word_byte in
     let P : Class → Type 0 = λ c. IsPiece c (w ++ b ∷ s) (piece.Lexeme (kind.Name w) (length w)) in
     subst P (sym of_class) (sym word)

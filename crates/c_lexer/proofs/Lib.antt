@@ -12,6 +12,7 @@ pub mod LocalPasses
 pub mod UpTo
 pub mod Fresh
 pub mod Lexemes
+pub mod Edits
 pub mod Total
 pub mod Answered
 mod Examples
