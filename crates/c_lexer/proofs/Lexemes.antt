@@ -223,9 +223,6 @@ word_no_blank c word = grind (arith, nat_tests)
 word_no_slash : (c : ℕ) → is_word_byte c ≡ true → nat_eq 47 c ≡ false
 word_no_slash c word = grind (arith, nat_tests)
 
-word_no_hash : (c : ℕ) → is_word_byte c ≡ true → nat_eq 35 c ≡ false
-word_no_hash c word = grind (arith, nat_tests)
-
 word_class : (c : ℕ) (r : List ℕ) → is_digit c ≡ false → is_word_byte c ≡ true → class_of false (c ∷ r) ≡ class.Word
 word_class c r no_digit word =
     let blank = word_no_blank c word in

@@ -12,4 +12,5 @@ pub mod ScanLemmas
 pub mod ScanLoop
 pub mod SoundLemmas
 pub mod StraightRuns
+pub mod TextLemmas
 pub mod VarLemmas
