@@ -10,6 +10,9 @@ pub mod LocalPiece
 pub mod Passes
 pub mod LocalPasses
 pub mod UpTo
+pub mod Fresh
+pub mod Lexemes
+pub mod Edits
 pub mod Total
 pub mod Answered
 mod Examples

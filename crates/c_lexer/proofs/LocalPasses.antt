@@ -23,7 +23,7 @@ use Rattle.c_lexer.proofs.Passes.{Passes, here, past}
 
 -- ---- a piece that others follow has a byte
 
-abbrev class_tests : Bool → Bool → Bool → Bool → Bool → Bool → Bool → Bool → Class
+abbrev pub class_tests : Bool → Bool → Bool → Bool → Bool → Bool → Bool → Bool → Class
 class_tests t1 t2 t3 t4 t5 t6 t7 t8 =
     cond t1 class.Blank
     (cond t2 class.LineComment
@@ -108,7 +108,7 @@ abbrev pub NoneRefused : List Token → Type 0
 NoneRefused [] = Unit {0}
 NoneRefused (token ∷ rest) = IsAccepted token.kind × NoneRefused rest
 
-accepted_first : (at : ℕ) (p : Piece) (r : Reading) → NoneRefused (reading_from at p r).tokens → NotRefused p
+pub accepted_first : (at : ℕ) (p : Piece) (r : Reading) → NoneRefused (reading_from at p r).tokens → NotRefused p
 accepted_first at (piece.Lexeme kind n) r accepted = accepted.0
 accepted_first at piece.End r accepted = tt
 accepted_first at piece.Blank r accepted = tt
@@ -116,7 +116,7 @@ accepted_first at (piece.Comment n) r accepted = tt
 accepted_first at (piece.Include n) r accepted = tt
 accepted_first at (piece.Bad fault n) r accepted = tt
 
-accepted_rest : (at : ℕ) (p : Piece) (r : Reading) → NoneRefused (reading_from at p r).tokens → NoneRefused r.tokens
+pub accepted_rest : (at : ℕ) (p : Piece) (r : Reading) → NoneRefused (reading_from at p r).tokens → NoneRefused r.tokens
 accepted_rest at (piece.Lexeme kind n) r accepted = accepted.1
 accepted_rest at piece.End r accepted = accepted
 accepted_rest at piece.Blank r accepted = accepted

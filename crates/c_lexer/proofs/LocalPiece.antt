@@ -43,7 +43,7 @@ refused_kind None k e accepted = cc
 refused_kind (Some row) k e accepted = let same : kind.Refused row ≡ k = cc in subst IsAccepted (sym same) accepted
 
 -- a punctuator that begins with `#` is refused
-hash_refused : (r : List ℕ) (p : Piece) → IsPunctuator (35 ∷ r) p → GoesOn p → NotRefused p → ⊥
+pub hash_refused : (r : List ℕ) (p : Piece) → IsPunctuator (35 ∷ r) p → GoesOn p → NotRefused p → ⊥
 hash_refused r (piece.Lexeme k zero) is goes accepted = let e = is.1 in cc
 hash_refused r (piece.Lexeme k (suc n)) is goes accepted = refused_kind (refused_punctuator (35 ∷ take n r)) k is.1 accepted
 hash_refused r (piece.Bad fault at) is goes accepted = goes
