@@ -175,7 +175,7 @@ variable_is x at = ap variable_of (expr.outs-Var x at)
 
 -- changes
 
-abbrev all_vars : Draft → Reading → List VarDef
+abbrev pub all_vars : Draft → Reading → List VarDef
 all_vars d r = r.vars ++ result_of d ∷ []
 
 pub piece_changes_are : (ts : List Token) (vars : List VarDef) (puts : List Put) (g : Gap) (i : Item) (start end : ℕ)

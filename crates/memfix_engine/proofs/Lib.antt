@@ -1,3 +1,4 @@
+pub mod EditAlike
 pub mod EditLemmas
 pub mod Emptied
 pub mod FormLemmas
