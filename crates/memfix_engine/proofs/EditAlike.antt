@@ -1,16 +1,16 @@
 -- A straight program with the choice's frees is alike its filling by that choice.
-use Rattle.std.proofs.Common.{◌≡◌, ◌≢◌, ℕ, ◌+◌, ◌-◌, ◌≤◌, Bool, true, ◌==◌, ◌&&◌, List, [], ◌∷◌, ◌++◌, length, map, Some, None, refl, sym, ◌∙◌, ap, arith, codes, ℤ, false, subst}
+use Rattle.std.proofs.Common.{◌≡◌, ◌≢◌, ℕ, ◌+◌, ◌-◌, ◌≤◌, Bool, true, ◌&&◌, List, [], ◌∷◌, ◌++◌, length, map, Some, None, refl, sym, ◌∙◌, ap, arith, codes, ℤ, false, subst}
 use Rattle.std.proofs.lemmas.Bool.{eq-eqb}
 use Rattle.std.proofs.lemmas.List.{map-append, length-map}
 use Rattle.std.specs.Prelude.{if◌then◌else◌}
 use Rattle.std.specs.List.{flat_map, range_with_len}
 use Rattle.c_lexer.specs.declared.token.Token.{Token}
 use Rattle.c_tree.specs.declared.choice.Put.{Put}
-use Rattle.c_tree.specs.declared.expr.Expr.{Expr, Expr-F, out-Expr, roll-Expr, fold-roll-Expr}
+use Rattle.c_tree.specs.declared.expr.Expr.{Expr, Expr-F, roll-Expr, fold-roll-Expr}
 use Rattle.c_tree.specs.declared.expr.Expr.TheVariants as expr
 use Rattle.c_tree.specs.declared.expr.Expr.TheOpen.{Const}
 use Rattle.c_tree.specs.declared.program.Block.{Block, roll-Block}
-use Rattle.c_tree.specs.declared.program.Piece.{Piece, Piece-F, roll-Piece, out-roll-Piece}
+use Rattle.c_tree.specs.declared.program.Piece.{Piece, Piece-F, out-roll-Piece}
 use Rattle.c_tree.specs.declared.program.Item.{Item, roll-Item}
 use Rattle.c_tree.specs.declared.program.Item.TheVariants as item
 use Rattle.c_tree.specs.declared.program.Item.TheOpen as layer
@@ -37,13 +37,13 @@ use Rattle.memfix_engine.specs.declared.draft.Draft.{Draft}
 use Rattle.memfix_engine.specs.declared.edit.Change.{Change}
 use Rattle.memfix_engine.specs.declared.reading.Reading.{Reading}
 use Rattle.memfix_engine.specs.Reading.{item_piece, return_of, result_of, gap_of, main_of, body_of, whole_of}
-use Rattle.memfix_engine.specs.Edit.{is_of, is_put, are_put, blanks, written, gap_changes, piece_changes, changes}
-use Rattle.memfix_engine.specs.Own.{put_of, variable, freed, own_puts}
+use Rattle.memfix_engine.specs.Edit.{is_of, are_put, blanks, written, gap_changes, piece_changes, changes}
+use Rattle.memfix_engine.specs.Own.{put_of, freed, own_puts}
 use Rattle.memfix_engine.specs.Repair.{return_puts}
 use Rattle.memfix_engine.specs.Straight as straight
 use Rattle.memfix_engine.specs.Straight.{IsStraight, declares, stores, shows, AreFrees, gap_with, Straight, none, more, IsSound}
 use Rattle.memfix_engine.proofs.Emptied.{cleared_piece, cleared}
-use Rattle.memfix_engine.proofs.GapLemmas.{puts_elsewhere, puts_there, return_puts_are, gap_before, gap_before_is, return_piece, IsKept, AreKept, kept_front, kept_rest, own_kept, variable_is, all_vars, piece_changes_are, changes_are}
+use Rattle.memfix_engine.proofs.GapLemmas.{puts_elsewhere, puts_there, return_puts_are, gap_before, gap_before_is, return_piece, IsKept, AreKept, kept_front, kept_rest, own_kept, variable_is, all_vars, piece_changes_are, changes_of_whole}
 
 -- items with no blocks have no gaps
 
@@ -74,7 +74,7 @@ regapped_item_piece f g h i start end at same =
     ∙ ap (λ (k : Gap). item_piece k (regapped_item f i) start end) at
     ∙ ap (λ (j : Item). item_piece h j start end) same
 
--- a program of pieces, numbered so far, and of frees before the return
+-- a program of n pieces, and of frees before the return
 
 abbrev block_with : Draft → List Piece → Gap → Block
 block_with d ps last = roll-Block (record { items = ps; last_gap = last; braced = true; start = d.brace_at; end = d.close_end })
@@ -187,7 +187,7 @@ filled_elsewhere g k fs xs h = ap (λ (qs : List Put). gap_with k (map free_of q
 filled_there : (g : ℕ) (fs : List Free) (xs : List ℕ) → filled (map (put_of g) xs) (gap_with g fs) ≡ gap_with g (map free_of (map (put_of g) xs))
 filled_there g fs xs = ap (λ (qs : List Put). gap_with g (map free_of qs)) (puts_there g xs)
 
-cleared_piece_is : (k : ℕ) (fs : List Free) (i : Item) (start end : ℕ) → cleared_piece (item_piece (gap_with k fs) i start end) ≡ item_piece (gap_with k []) i start end
+pub cleared_piece_is : (k : ℕ) (fs : List Free) (i : Item) (start end : ℕ) → cleared_piece (item_piece (gap_with k fs) i start end) ≡ item_piece (gap_with k []) i start end
 cleared_piece_is k fs i start end =
     ap (λ (p : Piece-F Item Arm Block Piece). item_piece (emptied p.gap) p.item p.start p.end)
     (out-roll-Piece (record { gap = gap_with k fs; item = i; start = start; end = end }))
@@ -308,7 +308,7 @@ unchanged_own ts d r sound =
     let kept : AreKept puts (map gap_before r.pieces ++ gap_of r ∷ gap_with (length r.pieces + 1) [] ∷ []) = own_kept d r sound in
     let last = kept_rest puts (map gap_before r.pieces) (gap_of r ∷ gap_with (length r.pieces + 1) [] ∷ []) kept in
     let end = gap_changes ts (all_vars d r) (puts_at puts (length r.pieces + 1)) (d.close_end - 1) (gap_with (length r.pieces + 1) []) in
-    changes_are ts d r puts
+    changes_of_whole ts d r puts
     ∙ ap (λ (cs : List Change). cs ++ (gap_changes ts (all_vars d r) (puts_at puts (length r.pieces)) d.return_at (gap_of r) ++ end))
     (pieces_unchanged ts (all_vars d r) puts 0 0 (length r.vars) r.pieces sound.pieces (kept_front puts (map gap_before r.pieces) (gap_of r ∷ gap_with (length r.pieces + 1) [] ∷ []) kept))
     ∙ ap (λ (cs : List Change). cs ++ end) (own_unchanged ts (all_vars d r) puts d.return_at (length r.pieces) (length r.vars) r.frees sound.frees last.0)

@@ -1,5 +1,5 @@
 -- The gaps of a straight program, and what a choice has for each of them.
-use Rattle.std.proofs.Common.{◌≡◌, ◌≢◌, ℕ, zero, suc, ◌+◌, ◌-◌, ◌<◌, ◌≤◌, Bool, true, false, ◌==◌, List, [], ◌∷◌, ◌++◌, length, map, Option, Some, None, refl, sym, ◌∙◌, ap, subst, arith, append_assoc, append-nil, length-append}
+use Rattle.std.proofs.Common.{◌≡◌, ◌≢◌, ℕ, zero, suc, ◌+◌, ◌-◌, ◌<◌, ◌≤◌, Bool, true, false, ◌==◌, List, [], ◌∷◌, ◌++◌, length, map, refl, sym, ◌∙◌, ap, subst, arith, append_assoc, append-nil, length-append}
 use Rattle.std.proofs.lemmas.Bool.{eq-eqb, ne_eqb}
 use Rattle.std.proofs.lemmas.List.{map-append}
 use Rattle.std.proofs.lemmas.Grind.{flat_map-append}
@@ -8,21 +8,19 @@ use Rattle.std.specs.Prelude.{cond, filter}
 use Rattle.std.specs.List.{flat_map, range_with_len}
 use Rattle.c_lexer.specs.declared.token.Token.{Token}
 use Rattle.c_tree.specs.declared.choice.Put.{Put}
-use Rattle.c_tree.specs.declared.expr.Expr.{Expr, Expr-F}
 use Rattle.c_tree.specs.declared.expr.Expr.TheVariants as expr
 use Rattle.c_tree.specs.declared.program.Block.{Block, Block-F, out-roll-Block}
 use Rattle.c_tree.specs.declared.program.Piece.{Piece, Piece-F, out-Piece, out-roll-Piece}
 use Rattle.c_tree.specs.declared.program.Item.{Item}
 use Rattle.c_tree.specs.declared.program.Arm.{Arm}
 use Rattle.c_tree.specs.declared.program.Gap.{Gap}
-use Rattle.c_tree.specs.declared.program.Free.{Free}
 use Rattle.c_tree.specs.declared.program.VarDef.{VarDef}
 use Rattle.c_tree.specs.Fill.{puts_at}
 use Rattle.memfix_engine.specs.declared.draft.Draft.{Draft}
 use Rattle.memfix_engine.specs.declared.edit.Change.{Change}
 use Rattle.memfix_engine.specs.declared.reading.Reading.{Reading}
 use Rattle.memfix_engine.specs.Reading.{item_piece, gap_of, return_of, result_of, body_of, whole_of}
-use Rattle.memfix_engine.specs.Edit.{gap_changes, piece_changes, last_changes, block_changes, changes}
+use Rattle.memfix_engine.specs.Edit.{gap_changes, piece_changes, block_changes, changes}
 use Rattle.memfix_engine.specs.Own.{put_of, variable_of, variable, freed, gaps_of_block, gaps_of, own_puts}
 use Rattle.memfix_engine.specs.Repair.{return_puts}
 use Rattle.memfix_engine.specs.Straight.{gap_with, Straight, none, more, IsSound}
@@ -185,12 +183,12 @@ piece_changes_are ts vars puts g i start end =
     (out-roll-Piece (record { gap = g; item = i; start = start; end = end }))
 
 -- before the items, before the return and before the brace
-pub changes_are : (ts : List Token) (d : Draft) (r : Reading) (puts : List Put)
+pub changes_of_whole : (ts : List Token) (d : Draft) (r : Reading) (puts : List Put)
     → changes ts (whole_of d r) puts
     ≡ flat_map (piece_changes ts (all_vars d r) puts) r.pieces
     ++ (gap_changes ts (all_vars d r) (puts_at puts (length r.pieces)) d.return_at (gap_of r)
     ++ gap_changes ts (all_vars d r) (puts_at puts (length r.pieces + 1)) (d.close_end - 1) (gap_with (length r.pieces + 1) []))
-changes_are ts d r puts =
+changes_of_whole ts d r puts =
     let before = flat_map (piece_changes ts (all_vars d r) puts) r.pieces in
     let last = gap_changes ts (all_vars d r) (puts_at puts (length r.pieces + 1)) (d.close_end - 1) (gap_with (length r.pieces + 1) []) in
     append-nil (block_changes ts (all_vars d r) puts (body_of d r))

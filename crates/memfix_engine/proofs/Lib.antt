@@ -1,5 +1,6 @@
 pub mod EditAlike
 pub mod EditLemmas
+pub mod EditSteps
 pub mod Emptied
 pub mod FormLemmas
 pub mod FormTokens
