@@ -115,8 +115,8 @@ return_filled b ts d r scanned form sound read =
     ap (λ (cs : List Change). changed 0 cs b) m.changes_are in
     let program : option_map (whole_of e.draft) (read_from nothing_read e.draft.steps) ≡ Some (whole_of e.draft q) =
     ap (λ (ss : List Step). option_map (whole_of e.draft) (read_from nothing_read ss)) e.steps_are ∙ ap (option_map (whole_of e.draft)) f.read in
-    let alike = alike_return d e.draft r f.frees sound e.number f.all in
-    let safe = safe_clear e.draft q (clear_of sound.pieces) f.all in
+    let alike = alike_return d e.draft r f.frees sound e.number f.each in
+    let safe = safe_clear e.draft q (clear_of sound.pieces) f.each in
     record {
       filled = whole_of e.draft q;
       reads = record {
