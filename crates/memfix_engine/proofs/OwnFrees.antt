@@ -22,7 +22,8 @@ use Rattle.memfix_engine.specs.Reading.{item_piece, gap_of, return_of, result_of
 use Rattle.memfix_engine.specs.Straight as straight
 use Rattle.memfix_engine.specs.Straight.{IsStraight, AreFrees, Straight, gap_with, IsSound}
 use Rattle.memfix_engine.proofs.Counts.{times, times_count, times-append, times_none, times_some, times_first, and_first, and_second, behind, times_moved, times-behind, Apart, Apart-none, Apart-behind, Apart-first, Apart-rest, range_each}
-use Rattle.memfix_engine.proofs.StraightCourses.{UsesNone, FreesAlong, ends, goes, return_piece}
+use Rattle.memfix_engine.proofs.StraightCourses.{UsesNone, FreesAlong, ends, goes}
+use Rattle.memfix_engine.proofs.GapLemmas.{return_piece}
 
 -- the variables that frees free, and those that the gap before an item frees
 abbrev pub variables : List Free → List ℕ

@@ -28,9 +28,9 @@ use Rattle.memfix_engine.proofs.Emptied.{cleared, releases, insertion, marked_bl
 use Rattle.memfix_engine.proofs.TextLemmas.{AllNamed, tokens_named}
 use Rattle.memfix_engine.proofs.SoundLemmas.{Steps-named, read_sound}
 use Rattle.memfix_engine.proofs.StraightRuns.{safe_clear, safe_own}
-use Rattle.memfix_engine.proofs.EditAlike.{alike_return, alike_own, unchanged_own, clear_of}
-use Rattle.memfix_engine.proofs.EditSteps.{IsMarked, marked}
-use Rattle.memfix_engine.proofs.EditText.{IsEdited, edited_form}
+use Rattle.memfix_engine.proofs.EditAlike.{alike_return, alike_own, unchanged_own}
+use Rattle.memfix_engine.proofs.EditSteps.{marked, clear_of}
+use Rattle.memfix_engine.proofs.EditText.{edited_form}
 
 -- the text w reads as a program that is p filled by these puts, is safe, and does the same as p
 record ReadsFilled (w : List ℕ) (p : Program) (puts : List Put) : Type 0 where

@@ -26,6 +26,7 @@ use Rattle.memfix_engine.specs.declared.draft.Draft.{Draft}
 use Rattle.memfix_engine.specs.declared.reading.Reading.{Reading}
 use Rattle.memfix_engine.specs.Reading.{item_piece, gap_of, return_of, result_of, body_of, main_of, whole_of}
 use Rattle.memfix_engine.specs.Straight.{IsStraight, gap_with}
+use Rattle.memfix_engine.proofs.GapLemmas.{return_piece}
 
 -- the variable that an item uses is not gone
 abbrev pub UsesNone : {n m : ℕ} {i : Item} → IsStraight n i m → List ℕ → Type 0
@@ -79,9 +80,6 @@ does (IsStraight.shows t word x h) = record {
   apart = λ gone e. e;
   behind = λ inner k. refl;
 }
-
-abbrev pub return_piece : Draft → Reading → Piece
-return_piece d r = item_piece (gap_of r) (return_of d) d.return_at d.return_end
 
 -- the item behind the first ones
 item_behind : (d : Draft) (r : Reading) (i : ℕ) (front ps : List Piece) (piece : Piece) → r.pieces ≡ front ++ piece ∷ ps → length front ≡ i → slice_get (out-Block (body_of d r)).items i ≡ Some piece
