@@ -9,6 +9,7 @@ pub mod Emptied
 pub mod FormLemmas
 pub mod FormTokens
 pub mod GapLemmas
+pub mod NameLemmas
 pub mod OwnFrees
 pub mod RepairLemmas
 pub mod SoundLemmas

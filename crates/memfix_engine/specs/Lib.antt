@@ -1,5 +1,6 @@
 pub mod FreeText
 pub mod Form
+pub mod Names
 pub mod Reading
 pub mod Reads
 pub mod Prefix

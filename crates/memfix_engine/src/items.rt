@@ -1,18 +1,12 @@
 //! The items of a program of the first form.
 ghost use Rattle.std.specs.Prelude.{◌≡◌, ◌∷◌, [], IfOk};
-ghost use Rattle.memfix_engine.specs.Reading.{var_of, stored, shown, declared};
+ghost use Rattle.memfix_engine.specs.Reading.{stored, shown, declared};
 
 use crate::draft::{Make, Show, Store};
-use c_tree::{Call, Declr, Expr, Item, Op, Right, Simple, Size, VarDef};
+use c_tree::{Call, Declr, Expr, Item, Op, Right, Simple, Size};
 use mf_list::Seq;
 use sqlite_items::Boxed;
 use std::alloc::{AllocError, Global};
-
-pub(crate) fn var_of(vars: &[VarDef], name: &[u8]) -> Option<usize>
-    ensures { result ≡ var_of vars.now name.now }
-{
-    vars.iter().position(|var| var.name.as_slice() == name)
-}
 
 pub(crate) fn one<T: Drop>(alloc: Global, item: T) -> Result<Seq<T>, AllocError>
     ensures { IfOk result (λ s. s ≡ item ∷ []) }

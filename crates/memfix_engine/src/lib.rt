@@ -6,6 +6,7 @@ mod edit;
 mod form;
 mod items;
 mod kinds;
+mod names;
 mod reading;
 mod refusal;
 

@@ -3,7 +3,8 @@ ghost use Rattle.std.specs.Prelude.{◌≡◌, [], IfOk};
 ghost use Rattle.memfix_engine.specs.Reading.{nothing_read, read_from, body_of, main_of, result_of, whole_of, program_of};
 
 use crate::draft::{Deed, Draft, Make, Release, Show, Step, Store};
-use crate::items::{declared, one, shown, stored, var_of};
+use crate::items::{declared, one, shown, stored};
+use crate::names::Names;
 use c_tree::{Block, Expr, Free, FunDef, Gap, Home, Item, Piece, Program, Right, Ty, VarDef};
 use mf_list::Seq;
 use sqlite_items::Items;
@@ -19,7 +20,8 @@ pub(crate) struct Reading {
 }
 
 impl Reading {
-    ghost use Rattle.std.specs.Prelude.{◌≡◌, IfOk, Some, None, option_map};
+    ghost use Rattle.std.specs.Prelude.{◌≡◌, IfOk, IfSome, Some, None, option_map};
+    ghost use Rattle.memfix_engine.specs.Names.{number_in, names_of};
     ghost use Rattle.memfix_engine.specs.Reading.{var_of, with_item, with_var, with_make, made, stored, shown, released, stepped, nothing_read};
 
     fn new(alloc: Global) -> Reading
@@ -86,25 +88,47 @@ impl Reading {
         reading.with_item(alloc, item, step)
     }
 
-    fn var_of(&self, name: &[u8]) -> Option<usize>
-        ensures { result ≡ var_of self.now.vars name.now }
+    fn var_of(&self, names: &Names, name: &[u8]) -> Option<usize>
+        requires { names.now ≡ names_of self.now.vars }
+        ensures var { result ≡ var_of self.now.vars name.now }
+        ensures number { result ≡ number_in names.now name.now }
     {
-        var_of(self.vars.as_slice(), name)
+        names.find(name)
     }
 
-    fn make(self, alloc: Global, step: &Step, make: &Make) -> Result<Option<Reading>, AllocError>
-        ensures { IfOk result (λ o. o ≡ made self step.now make.now (var_of self.vars make.now.name)) }
+    fn make(
+        self,
+        alloc: Global,
+        names: &mut Names,
+        step: &Step,
+        make: &Make,
+    ) -> Result<Option<Reading>, AllocError>
+        requires { names.old ≡ names_of self.vars }
+        ensures reading { IfOk result (λ o. o ≡ made self step.now make.now (var_of self.vars make.now.name)) }
+        ensures names { IfOk result (λ o. IfSome o (λ r. names.new ≡ names_of r.vars)) }
     {
-        match self.var_of(make.name.as_slice()) {
+        let name = make.name.as_slice();
+        match self.var_of(names, name) {
             Some(_) => Ok(None),
-            None => Ok(Some(self.with_make(alloc, step, make)?)),
+            None => {
+                names.push(alloc, name)?;
+                Ok(Some(self.with_make(alloc, step, make)?))
+            }
         }
     }
 
-    fn store(self, alloc: Global, step: &Step, store: &Store) -> Result<Option<Reading>, AllocError>
-        ensures { IfOk result (λ o. o ≡ option_map (λ x. with_item self (stored store.now step.now.start x) step.now) (var_of self.vars store.now.name)) }
+    fn store(
+        self,
+        alloc: Global,
+        names: &Names,
+        step: &Step,
+        store: &Store,
+    ) -> Result<Option<Reading>, AllocError>
+        requires { names.now ≡ names_of self.vars }
+        ensures reading { IfOk result (λ o. o ≡ option_map (λ x. with_item self (stored store.now step.now.start x) step.now) (var_of self.vars store.now.name)) }
+        ensures names { IfOk result (λ o. IfSome o (λ r. names.now ≡ names_of r.vars)) }
     {
-        match self.var_of(store.name.as_slice()) {
+        match self.var_of(names, store.name.as_slice()) {
             Some(var) => {
                 let item = stored(alloc, store, step.start, var)?;
                 Ok(Some(self.with_item(alloc, item, step)?))
@@ -113,10 +137,18 @@ impl Reading {
         }
     }
 
-    fn show(self, alloc: Global, step: &Step, show: &Show) -> Result<Option<Reading>, AllocError>
-        ensures { IfOk result (λ o. o ≡ option_map (λ x. with_item self (shown show.now step.now.start x) step.now) (var_of self.vars show.now.name)) }
+    fn show(
+        self,
+        alloc: Global,
+        names: &Names,
+        step: &Step,
+        show: &Show,
+    ) -> Result<Option<Reading>, AllocError>
+        requires { names.now ≡ names_of self.vars }
+        ensures reading { IfOk result (λ o. o ≡ option_map (λ x. with_item self (shown show.now step.now.start x) step.now) (var_of self.vars show.now.name)) }
+        ensures names { IfOk result (λ o. IfSome o (λ r. names.now ≡ names_of r.vars)) }
     {
-        match self.var_of(show.name.as_slice()) {
+        match self.var_of(names, show.name.as_slice()) {
             Some(var) => {
                 let item = shown(alloc, show, step.start, var)?;
                 Ok(Some(self.with_item(alloc, item, step)?))
@@ -145,24 +177,38 @@ impl Reading {
         })
     }
 
-    fn release(self, step: &Step, release: &Release) -> Result<Option<Reading>, AllocError>
-        ensures { IfOk result (λ o. o ≡ option_map (released self step.now release.now) (var_of self.vars release.now.name)) }
+    fn release(
+        self,
+        names: &Names,
+        step: &Step,
+        release: &Release,
+    ) -> Result<Option<Reading>, AllocError>
+        requires { names.now ≡ names_of self.vars }
+        ensures reading { IfOk result (λ o. o ≡ option_map (released self step.now release.now) (var_of self.vars release.now.name)) }
+        ensures names { IfOk result (λ o. IfSome o (λ r. names.now ≡ names_of r.vars)) }
     {
-        match self.var_of(release.name.as_slice()) {
+        match self.var_of(names, release.name.as_slice()) {
             Some(var) => Ok(Some(self.released(step, release, var)?)),
             None => Ok(None),
         }
     }
 
     /// One step more; none where its name is declared twice, or used before it is declared.
-    fn step(self, alloc: Global, step: &Step) -> Result<Option<Reading>, AllocError>
-        ensures { IfOk result (λ o. o ≡ stepped self step.now) }
+    fn step(
+        self,
+        alloc: Global,
+        names: &mut Names,
+        step: &Step,
+    ) -> Result<Option<Reading>, AllocError>
+        requires { names.old ≡ names_of self.vars }
+        ensures reading { IfOk result (λ o. o ≡ stepped self step.now) }
+        ensures names { IfOk result (λ o. IfSome o (λ r. names.new ≡ names_of r.vars)) }
     {
         match &step.deed {
-            Deed::Make(make) => self.make(alloc, step, make),
-            Deed::Store(store) => self.store(alloc, step, store),
-            Deed::Show(show) => self.show(alloc, step, show),
-            Deed::Release(release) => self.release(step, release),
+            Deed::Make(make) => self.make(alloc, names, step, make),
+            Deed::Store(store) => self.store(alloc, names, step, store),
+            Deed::Show(show) => self.show(alloc, names, step, show),
+            Deed::Release(release) => self.release(names, step, release),
             Deed::Empty => Ok(Some(self)),
         }
     }
@@ -172,8 +218,9 @@ fn read_steps(alloc: Global, steps: &[Step]) -> Result<Option<Reading>, AllocErr
     ensures { IfOk result (λ o. o ≡ read_from nothing_read steps.now) }
 {
     let mut reading = Reading::new(alloc);
+    let mut names = Names::new(alloc);
     for step in steps {
-        match reading.step(alloc, step)? {
+        match reading.step(alloc, &mut names, step)? {
             Some(next) => reading = next,
             None => return Ok(None),
         }
