@@ -3,6 +3,7 @@ pub mod Form
 pub mod Reading
 pub mod Reads
 pub mod Prefix
+pub mod Progress
 pub mod Refusal
 pub mod Edit
 pub mod Own
