@@ -2,5 +2,10 @@ pub mod EditLemmas
 pub mod Emptied
 pub mod FormLemmas
 pub mod FormTokens
+pub mod NameLemmas
+pub mod PlaceLemmas
+pub mod ProgressEnds
+pub mod ProgressLemmas
+pub mod ProgressParts
 pub mod TextLemmas
 pub mod VarLemmas

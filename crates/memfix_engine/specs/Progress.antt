@@ -40,9 +40,9 @@ admits new names Name k = fits Name k && name_fits new names k
 admits new names w k = fits w k
 
 -- the names that are declared behind a token that is admitted
-abbrev pub names_behind : Bool → List (List ℕ) → Want → Kind → List (List ℕ)
-names_behind true names Name (kind.Name word) = names ++ word ∷ []
-names_behind _ names _ _ = names
+abbrev pub names_behind : Want → Bool → Kind → List (List ℕ) → List (List ℕ)
+names_behind Name true (kind.Name word) names = names ++ word ∷ []
+names_behind _ _ _ names = names
 
 -- a step that uses a name wants one that is declared
 abbrev pub may_begin : Pattern → List (List ℕ) → Bool
@@ -65,7 +65,7 @@ begun_behind part.Tail names k = None
 begun_behind _ names k = begun names k
 
 abbrev pub admitted : Progress → Want → Kind → Option Progress
-admitted s w k = if admits (declares s.part) s.names w k then Some (record { names = names_behind (declares s.part) s.names w k; part = s.part; at = s.at + 1 }) else None
+admitted s w k = if admits (declares s.part) s.names w k then Some (record { names = names_behind w (declares s.part) k s.names; part = s.part; at = s.at + 1 }) else None
 
 abbrev pub advanced : Progress → Kind → Option Want → Option Progress
 advanced s k (Some w) = admitted s w k

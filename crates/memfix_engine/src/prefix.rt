@@ -83,7 +83,7 @@ fn names_behind(
     want: Want,
     kind: &Kind,
 ) -> Result<Seq<Seq<u8>>, AllocError>
-    ensures { IfOk result (λ ns. ns ≡ names_behind new names want kind.now) }
+    ensures { IfOk result (λ ns. ns ≡ names_behind want new kind.now names) }
 {
     if new {
         if let (Want::Name, Kind::Name(word)) = (want, kind) {
