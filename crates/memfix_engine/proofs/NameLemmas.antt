@@ -9,7 +9,7 @@ use Rattle.memfix_engine.specs.declared.draft.Deed.TheVariants as deed
 use Rattle.memfix_engine.specs.declared.draft.Make.{Make}
 use Rattle.memfix_engine.specs.declared.draft.Step.{Step}
 use Rattle.memfix_engine.specs.declared.reading.Reading.{Reading}
-use Rattle.memfix_engine.specs.Reading.{var_of, with_item, with_make, made, stored, shown, released, stepped_by, stepped, nothing_read, read_from}
+use Rattle.memfix_engine.specs.Reading.{var_of, with_item, made, stored, shown, released, stepped_by, stepped, nothing_read, read_from}
 use Rattle.memfix_engine.specs.Progress.{is_declared}
 use Rattle.memfix_engine.proofs.VarLemmas.{position-cons}
 

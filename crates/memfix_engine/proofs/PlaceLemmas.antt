@@ -1,5 +1,6 @@
 -- The place at which tokens stop to be the beginning of the first form: it is where their walk stops, and there is one.
 use Rattle.std.proofs.Common.{◌≡◌, ℕ, List, [], ◌∷◌, ◌++◌, Option, Some, None, refl, sym, ◌∙◌, ap, subst, append_assoc}
+use Rattle.std.proofs.lemmas.List.{append-nil}
 use Rattle.c_lexer.specs.declared.token.Token.{Token}
 use Rattle.c_tree.specs.declared.program.Program.{Program}
 use Rattle.memfix_engine.specs.declared.prefix.Progress.{Progress}
@@ -8,10 +9,6 @@ use Rattle.memfix_engine.specs.Prefix.{Begins, Stops, start_of, IsPlace}
 use Rattle.memfix_engine.specs.Progress.{advance, nothing_begun, place_or, place_from}
 use Rattle.memfix_engine.proofs.ProgressLemmas.{Completes, Next, First, completes_on, completes_back, completed_first, first_completed}
 use Rattle.memfix_engine.proofs.ProgressEnds.{IsReady, Ending, ready_on, ready_first, ready_ends}
-
-append_nil : (xs : List Token) → xs ++ [] ≡ xs
-append_nil [] = refl
-append_nil (x ∷ xs) = ap (λ ys. x ∷ ys) (append_nil xs)
 
 -- the tokens have come so far
 record Leads (front : List Token) (s : Progress) : Type 0 where
@@ -30,10 +27,10 @@ same_next o q us e n =
 
 leads_on : (front : List Token) (s q : Progress) (t : Token) → Leads front s → advance s t.kind ≡ Some q → Leads (front ++ t ∷ []) q
 leads_on front s q t l e = record {
-    ready = ready_on s q t.kind l.ready e;
-    back = λ us h. subst (Completes nothing_begun) (sym (append_assoc front (t ∷ []) us)) (l.back (t ∷ us) (completes_back s q t us e h));
-    on = λ us h. same_next (advance s t.kind) q us e (completes_on s t us (l.on (t ∷ us) (subst (Completes nothing_begun) (append_assoc front (t ∷ []) us) h)));
-  }
+  ready = ready_on s q t.kind l.ready e;
+  back = λ us h. subst (Completes nothing_begun) (sym (append_assoc front (t ∷ []) us)) (l.back (t ∷ us) (completes_back s q t us e h));
+  on = λ us h. same_next (advance s t.kind) q us e (completes_on s t us (l.on (t ∷ us) (subst (Completes nothing_begun) (append_assoc front (t ∷ []) us) h)));
+}
 
 leads_begins : (front : List Token) (s : Progress) → Leads front s → Begins front
 leads_begins front s l =
@@ -53,16 +50,25 @@ place_by : (size : ℕ) (front : List Token) (s : Progress) (t : Token) (ts : Li
     → ((q : Progress) → advance s t.kind ≡ Some q → IsPlace size (front ++ t ∷ ts) (place_from q size ts))
     → IsPlace size (front ++ t ∷ ts) (place_or t.start (λ q. place_from q size ts) o)
 place_by size front s t ts None l e h = record {
-    front = front; behind = t ∷ ts; whole = refl; begun = leads_begins front s l; stops = leads_stops front s t l e; is = refl;
-  }
+  front = front;
+  behind = t ∷ ts;
+  whole = refl;
+  begun = leads_begins front s l;
+  stops = leads_stops front s t l e;
+  is = refl;
+}
 place_by size front s t ts (Some q) l e h = h q e
 
 place_leads : (size : ℕ) (front : List Token) (s : Progress) (ts : List Token) → Leads front s → ((p : Program) → IsFirst (front ++ ts) p → ⊥)
     → IsPlace size (front ++ ts) (place_from s size ts)
 place_leads size front s [] l never = record {
-    front = front; behind = []; whole = refl; begun = leads_begins front s l;
-    stops = λ p h. never p (subst (λ xs. IsFirst xs p) (sym (append_nil front)) h); is = refl;
-  }
+  front = front;
+  behind = [];
+  whole = refl;
+  begun = leads_begins front s l;
+  stops = λ p h. never p (subst (λ xs. IsFirst xs p) (sym (append-nil front)) h);
+  is = refl;
+}
 place_leads size front s (t ∷ ts) l never =
     place_by size front s t ts (advance s t.kind) l refl (λ q e.
     subst (λ xs. IsPlace size xs (place_from q size ts)) (append_assoc front (t ∷ []) ts)
@@ -73,7 +79,7 @@ pub place_is : (size : ℕ) (ts : List Token) → ((p : Program) → IsFirst ts 
 place_is size ts never = place_leads size [] nothing_begun ts leads_first never
 
 stops_first : (front behind : List Token) (p : Program) → Stops front behind → IsFirst (front ++ behind) p → ⊥
-stops_first front [] p stops h = stops p (subst (λ xs. IsFirst xs p) (append_nil front) h)
+stops_first front [] p stops h = stops p (subst (λ xs. IsFirst xs p) (append-nil front) h)
 stops_first front (t ∷ behind) p stops h =
     stops (record { more = behind; program = p; first = subst (λ xs. IsFirst xs p) (sym (append_assoc front (t ∷ []) behind)) h })
 
@@ -84,9 +90,10 @@ place_not_first size ts at p h f = stops_first h.front h.behind p h.stops (subst
 -- a token more is too much
 begun_too_far : (front more : List Token) (t : Token) → Begins (front ++ t ∷ more) → Begins (front ++ t ∷ [])
 begun_too_far front more t b = record {
-    more = more ++ b.more; program = b.program;
-    first = subst (λ xs. IsFirst xs b.program) (append_assoc front (t ∷ more) b.more ∙ sym (append_assoc front (t ∷ []) (more ++ b.more))) b.first;
-  }
+  more = more ++ b.more;
+  program = b.program;
+  first = subst (λ xs. IsFirst xs b.program) (append_assoc front (t ∷ more) b.more ∙ sym (append_assoc front (t ∷ []) (more ++ b.more))) b.first;
+}
 
 -- one of two splits of a list is the further one, or they are the same
 data Splits (a b c d : List Token) : Type 0 where

@@ -1,5 +1,5 @@
 -- What has come can always be completed.
-use Rattle.std.proofs.Common.{◌≡◌, ℕ, zero, suc, ◌+◌, ◌<◌, ◌≤◌, Bool, true, false, not, ◌&&◌, ◌||◌, nat_eq, pos, codes, List, [], ◌∷◌, ◌++◌, length, drop, Option, Some, None, refl, sym, ◌∙◌, ap, subst, arith, length-append}
+use Rattle.std.proofs.Common.{◌≡◌, ℕ, ◌+◌, ◌<◌, Bool, true, false, not, nat_eq, pos, codes, List, [], ◌∷◌, ◌++◌, length, drop, Option, Some, None, refl, sym, ◌∙◌, subst, arith, length-append}
 use Rattle.std.specs.Prelude.{slice_get}
 use Rattle.std.specs.Cmp.Lexicographic.{pointwise}
 use Rattle.std.proofs.Math.Bool.{and-false}
@@ -15,11 +15,11 @@ use Rattle.memfix_engine.specs.declared.draft.Pattern.TheVariants as pattern
 use Rattle.memfix_engine.specs.declared.prefix.Part.{Part}
 use Rattle.memfix_engine.specs.declared.prefix.Part.TheVariants as part
 use Rattle.memfix_engine.specs.declared.prefix.Progress.{Progress}
-use Rattle.memfix_engine.specs.Form.{fits, wants, head_pattern, tail_pattern, matches, candidate, is_main, none}
-use Rattle.memfix_engine.specs.Progress.{is_declared, wanted, declares, name_fits, admits, names_behind, may_begin, begun_by, begun_behind, advanced, advance, nothing_begun}
+use Rattle.memfix_engine.specs.Form.{fits, wants, tail_pattern, candidate, is_main, none}
+use Rattle.memfix_engine.specs.Progress.{is_declared, wanted, declares, admits, names_behind, may_begin, begun_by, begun_behind, advanced, advance, nothing_begun}
 use Rattle.memfix_engine.proofs.VarLemmas.{pointwise_same}
-use Rattle.memfix_engine.proofs.ProgressParts.{and_left, and_right, and_both, if_some, fill, is_plain}
-use Rattle.memfix_engine.proofs.ProgressLemmas.{Completes, CompletesIn, GoesOn, Returns, drop_some}
+use Rattle.memfix_engine.proofs.ProgressParts.{and_left, and_both, if_some, fill, is_plain}
+use Rattle.memfix_engine.proofs.ProgressLemmas.{Completes, CompletesIn, GoesOn, drop_some}
 
 -- the first of the names is not `main`
 abbrev pub first_ok : List (List ℕ) → Bool
@@ -206,9 +206,18 @@ return_tokens = token_of (kind.Key KEY_RETURN) ∷ token_of (kind.Number (pos 0)
 
 goes_on : (new : Bool) (names : List (List ℕ)) (ws : List Want) (f : Fills new names ws) → GoesOn new names ws (f.tokens ++ return_tokens)
 goes_on new names ws f = record {
-    front = f.tokens; body = []; tail = return_tokens; between = f.last; last = f.last; steps = [];
-    whole = refl; filled = f.filled; spelled = none; read = refl; ends = refl;
-  }
+  front = f.tokens;
+  body = [];
+  tail = return_tokens;
+  between = f.last;
+  last = f.last;
+  steps = [];
+  whole = refl;
+  filled = f.filled;
+  spelled = none;
+  read = refl;
+  ends = refl;
+}
 
 ending_in : (names : List (List ℕ)) (p : Part) (ws : List Want) → Ready (declares p) names ws → EndingIn names p ws
 ending_in names part.Head ws r =

@@ -1,6 +1,6 @@
 -- Tokens complete the first form from where others have come, and one token leads on exactly so.
-use Rattle.std.proofs.Common.{◌≡◌, ℕ, zero, suc, ◌+◌, Bool, true, false, ◌&&◌, List, [], ◌∷◌, ◌++◌, drop, Option, Some, None, refl, sym, ◌∙◌, ap, subst, arith, append_assoc}
-use Rattle.std.specs.Prelude.{if◌then◌else◌, option_and_then, option_map, slice_get}
+use Rattle.std.proofs.Common.{◌≡◌, ℕ, zero, suc, ◌+◌, Bool, true, false, List, [], ◌∷◌, ◌++◌, drop, Option, Some, None, refl, sym, ◌∙◌, ap, subst, arith, append_assoc}
+use Rattle.std.specs.Prelude.{option_and_then, option_map, slice_get}
 use Rattle.c_lexer.specs.declared.token.Token.{Token}
 use Rattle.c_lexer.specs.declared.token.Kind.{Kind}
 use Rattle.c_tree.specs.declared.program.Program.{Program}
@@ -14,12 +14,12 @@ use Rattle.memfix_engine.specs.declared.prefix.Part.{Part}
 use Rattle.memfix_engine.specs.declared.prefix.Part.TheVariants as part
 use Rattle.memfix_engine.specs.declared.prefix.Progress.{Progress}
 use Rattle.memfix_engine.specs.declared.reading.Reading.{Reading}
-use Rattle.memfix_engine.specs.Form.{fits, matches, wants, head_pattern, tail_pattern, candidate, deed_of, step_of, draft_of, Spells, Steps, none, more, IsForm}
+use Rattle.memfix_engine.specs.Form.{fits, matches, wants, head_pattern, tail_pattern, candidate, deed_of, step_of, draft_of, Spells, Steps, none, more}
 use Rattle.memfix_engine.specs.Reading.{nothing_read, read_from, whole_of}
 use Rattle.memfix_engine.specs.Reads.{IsFirst}
-use Rattle.memfix_engine.specs.Progress.{is_declared, wanted, declares, admits, names_behind, may_begin, begun_by, begun, begun_behind, admitted, advanced, advance, nothing_begun}
+use Rattle.memfix_engine.specs.Progress.{wanted, declares, admits, names_behind, may_begin, begun_by, begun, begun_behind, admitted, advanced, advance, nothing_begun}
 use Rattle.memfix_engine.proofs.FormLemmas.{called_for, for_none, Spells-step_of}
-use Rattle.memfix_engine.proofs.NameLemmas.{named, names_of, names_step, names_from, Read, read_named, named_read}
+use Rattle.memfix_engine.proofs.NameLemmas.{names_of, names_step, names_from, Read, read_named, named_read}
 use Rattle.memfix_engine.proofs.ProgressParts.{and_left, and_right, if_some, fill, fill_matches, plain_fill, step_fill, begun_matches}
 
 -- the tokens fill what is left of a part, and steps and the return follow
@@ -108,17 +108,35 @@ goes_front new names w ws t us (x ∷ front) g e =
     record {
       admitted = f.admitted;
       goes = record {
-        front = front; body = g.body; tail = g.tail; between = g.between; last = g.last; steps = g.steps;
-        whole = rest; filled = f.filled; spelled = g.spelled; read = g.read; ends = g.ends;
+        front = front;
+        body = g.body;
+        tail = g.tail;
+        between = g.between;
+        last = g.last;
+        steps = g.steps;
+        whole = rest;
+        filled = f.filled;
+        spelled = g.spelled;
+        read = g.read;
+        ends = g.ends;
       };
     }
 
 goes_back : (new : Bool) (names : List (List ℕ)) (w : Want) (ws : List Want) (t : Token) (us : List Token) → admits new names w t.kind ≡ true
     → GoesOn new (names_behind w new t.kind names) ws us → GoesOn new names (w ∷ ws) (t ∷ us)
 goes_back new names w ws t us h g = record {
-    front = t ∷ g.front; body = g.body; tail = g.tail; between = g.between; last = g.last; steps = g.steps;
-    whole = ap (λ xs. t ∷ xs) g.whole; filled = fill_more new names w ws t g.front g.between h g.filled; spelled = g.spelled; read = g.read; ends = g.ends;
-  }
+  front = t ∷ g.front;
+  body = g.body;
+  tail = g.tail;
+  between = g.between;
+  last = g.last;
+  steps = g.steps;
+  whole = ap (λ xs. t ∷ xs) g.whole;
+  filled = fill_more new names w ws t g.front g.between h g.filled;
+  spelled = g.spelled;
+  read = g.read;
+  ends = g.ends;
+}
 
 want_on : (names : List (List ℕ)) (p : Part) (w : Want) (ws : List Want) (t : Token) (us : List Token) → CompletesIn names p (w ∷ ws) (t ∷ us) → Admits names p w ws t us
 want_on names part.Head w ws t us h =
@@ -188,17 +206,26 @@ step_on names last t us s ss (x ∷ front) rest tail k steps whole read ends =
       next = record { names = names; part = part.Step k.pattern; at = 1 };
       is = begun_step names t.kind k.pattern (called_for k.pattern t front matched) (may_use k.pattern names n.names (t ∷ front) stepped);
       completes = record {
-        front = front; body = rest; tail = tail; between = n.names; last = last; steps = ss;
-        whole = behind; filled = sym (step_fill k.pattern names t front matched) ∙ stepped; spelled = steps; read = n.read; ends = ends;
+        front = front;
+        body = rest;
+        tail = tail;
+        between = n.names;
+        last = last;
+        steps = ss;
+        whole = behind;
+        filled = sym (step_fill k.pattern names t front matched) ∙ stepped;
+        spelled = steps;
+        read = n.read;
+        ends = ends;
       };
     }
 
 return_on : (names : List (List ℕ)) (t : Token) (us : List Token) → matches tail_pattern (t ∷ us) ≡ true → Next (begun names t.kind) us
 return_on names t us h = record {
-    next = record { names = names; part = part.Tail; at = 1 };
-    is = begun_return names t.kind (for_none t.kind (and_left _ _ h)) (and_left _ _ h);
-    completes = record { last = names; filled = plain_fill false names (drop 1 tail_pattern) us refl (and_right _ _ h) };
-  }
+  next = record { names = names; part = part.Tail; at = 1 };
+  is = begun_return names t.kind (for_none t.kind (and_left _ _ h)) (and_left _ _ h);
+  completes = record { last = names; filled = plain_fill false names (drop 1 tail_pattern) us refl (and_right _ _ h) };
+}
 
 steps_on : (names last : List (List ℕ)) (t : Token) (us : List Token) (ss : List Step) (body tail : List Token) → Steps ss body → t ∷ us ≡ body ++ tail
     → names_from names ss ≡ Some last → matches tail_pattern tail ≡ true → Next (begun names t.kind) us
@@ -219,17 +246,19 @@ behind_on names part.Head t us h = goes_behind false names t us h.front h refl
 behind_on names (part.Step p) t us h = goes_behind (declares (part.Step p)) names t us h.front h refl
 behind_on names part.Tail t us h = let e : fill false names [] (t ∷ us) ≡ Some h.last = h.filled in absurd cc
 
-record Begun (names : List (List ℕ)) (k : Kind) (p : Pattern) (q : Progress) : Type 0 where
-  may : may_begin p names ≡ true
-  is : record { names = names; part = part.Step p; at = 1 } ≡ q
-
 step_back : (names : List (List ℕ)) (new : Bool) (t : Token) (us : List Token) (p : Pattern) → candidate t.kind ≡ Some p
     → GoesOn (declares (part.Step p)) names (drop 1 (wants p)) us → GoesOn new names [] (t ∷ us)
 step_back names new t us p c g =
     let matched : matches (wants p) (t ∷ g.front) ≡ true = begun_matches p t g.front c (fill_matches (declares (part.Step p)) names g.between (drop 1 (wants p)) g.front g.filled) in
     record {
-      front = []; body = (t ∷ g.front) ++ g.body; tail = g.tail; between = names; last = g.last; steps = step_of p (t ∷ g.front) ∷ g.steps;
-      whole = ap (λ xs. t ∷ xs) (g.whole ∙ sym (append_assoc g.front g.body g.tail)); filled = refl;
+      front = [];
+      body = (t ∷ g.front) ++ g.body;
+      tail = g.tail;
+      between = names;
+      last = g.last;
+      steps = step_of p (t ∷ g.front) ∷ g.steps;
+      whole = ap (λ xs. t ∷ xs) (g.whole ∙ sym (append_assoc g.front g.body g.tail));
+      filled = refl;
       spelled = more (step_of p (t ∷ g.front)) g.steps (t ∷ g.front) g.body (Spells-step_of (t ∷ g.front) p matched) g.spelled;
       read = ap (option_and_then (λ q. names_from q g.steps)) (step_fill p names t g.front matched ∙ g.filled) ∙ g.read;
       ends = g.ends;
@@ -237,9 +266,18 @@ step_back names new t us p c g =
 
 return_back : (names : List (List ℕ)) (new : Bool) (t : Token) (us : List Token) → fits (Key KEY_RETURN) t.kind ≡ true → Returns names (drop 1 tail_pattern) us → GoesOn new names [] (t ∷ us)
 return_back names new t us h g = record {
-    front = []; body = []; tail = t ∷ us; between = names; last = names; steps = [];
-    whole = refl; filled = refl; spelled = none; read = refl; ends = rw h (fill_matches false names g.last (drop 1 tail_pattern) us g.filled);
-  }
+  front = [];
+  body = [];
+  tail = t ∷ us;
+  between = names;
+  last = names;
+  steps = [];
+  whole = refl;
+  filled = refl;
+  spelled = none;
+  read = refl;
+  ends = rw h (fill_matches false names g.last (drop 1 tail_pattern) us g.filled);
+}
 
 begun_back : (names : List (List ℕ)) (new : Bool) (t : Token) (us : List Token) (c : Option Pattern) (q : Progress) → candidate t.kind ≡ c
     → begun_by names t.kind c ≡ Some q → Completes q us → GoesOn new names [] (t ∷ us)
@@ -308,8 +346,14 @@ completed_first ts g =
       is = record {
         draft = draft_of g.steps g.front g.tail;
         form = record {
-          head = g.front; body = g.body; tail = g.tail; whole = g.whole;
-          begins = fill_matches false [] g.between head_pattern g.front g.filled; steps = g.spelled; ends = g.ends; read = refl;
+          head = g.front;
+          body = g.body;
+          tail = g.tail;
+          whole = g.whole;
+          begins = fill_matches false [] g.between head_pattern g.front g.filled;
+          steps = g.spelled;
+          ends = g.ends;
+          read = refl;
         };
         program = ap (option_map (whole_of (draft_of g.steps g.front g.tail))) r.is;
       };
@@ -323,7 +367,15 @@ pub first_completed : (ts : List Token) (p : Program) → IsFirst ts p → Compl
 first_completed ts p h =
     let r : Read h.draft.steps = whole_read h.draft.steps (whole_of h.draft) (read_from nothing_read h.draft.steps) p refl h.program in
     record {
-      front = h.form.head; body = h.form.body; tail = h.form.tail; between = []; last = names_of r.reading; steps = h.draft.steps;
-      whole = h.form.whole; filled = plain_fill false [] head_pattern h.form.head refl h.form.begins; spelled = h.form.steps;
-      read = named_read h.draft.steps r.reading r.is; ends = h.form.ends;
+      front = h.form.head;
+      body = h.form.body;
+      tail = h.form.tail;
+      between = [];
+      last = names_of r.reading;
+      steps = h.draft.steps;
+      whole = h.form.whole;
+      filled = plain_fill false [] head_pattern h.form.head refl h.form.begins;
+      spelled = h.form.steps;
+      read = named_read h.draft.steps r.reading r.is;
+      ends = h.form.ends;
     }

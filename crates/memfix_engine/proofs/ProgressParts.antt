@@ -1,5 +1,5 @@
 -- Tokens that fill the parts of the first form.
-use Rattle.std.proofs.Common.{◌≡◌, ◌⊎◌, inl, inr, ℕ, suc, Bool, true, false, not, ◌==◌, ◌&&◌, List, [], ◌∷◌, ◌++◌, length, take, drop, Option, Some, None, refl, sym, ◌∙◌, ap, subst}
+use Rattle.std.proofs.Common.{◌≡◌, ◌⊎◌, inl, inr, ℕ, Bool, true, false, not, ◌==◌, ◌&&◌, List, [], ◌∷◌, ◌++◌, length, take, drop, Option, Some, None, refl, sym, ◌∙◌, ap, subst}
 use Rattle.std.specs.Prelude.{if◌then◌else◌}
 use Rattle.std.proofs.lemmas.Bool.{eqb-true, eq-eqb}
 use Rattle.c_lexer.specs.declared.token.Token.{Token}
@@ -112,14 +112,14 @@ named_fill new names (w ∷ front) back [] p q h = cc
 named_fill new names (w ∷ front) back (t ∷ ts) p q h =
     named_step new names w front back t ts p (and_left _ _ h) ∙ named_fill new names front back ts (plain_behind w front p) q (and_right _ _ h)
   where
-  named_step : (new : Bool) (names : List (List ℕ)) (w : Want) (front back : List Want) (t : Token) (ts : List Token) → is_plain (w ∷ front) ≡ true
-      → fits w t.kind ≡ true → fill new names (w ∷ (front ++ Name ∷ back)) (t ∷ ts) ≡ fill new names (front ++ Name ∷ back) ts
-  named_step new names (Key n) front back t ts p h = rw h refl
-  named_step new names (Punct n) front back t ts p h = rw h refl
-  named_step new names Name front back t ts p h = cc
-  named_step new names Main front back t ts p h = rw h refl
-  named_step new names Number front back t ts p h = rw h refl
-  named_step new names Format front back t ts p h = rw h refl
+    named_step : (new : Bool) (names : List (List ℕ)) (w : Want) (front back : List Want) (t : Token) (ts : List Token) → is_plain (w ∷ front) ≡ true
+        → fits w t.kind ≡ true → fill new names (w ∷ (front ++ Name ∷ back)) (t ∷ ts) ≡ fill new names (front ++ Name ∷ back) ts
+    named_step new names (Key n) front back t ts p h = rw h refl
+    named_step new names (Punct n) front back t ts p h = rw h refl
+    named_step new names Name front back t ts p h = cc
+    named_step new names Main front back t ts p h = rw h refl
+    named_step new names Number front back t ts p h = rw h refl
+    named_step new names Format front back t ts p h = rw h refl
 
 -- the tokens of a step give its names
 pub step_fill : (p : Pattern) (names : List (List ℕ)) (t : Token) (ts : List Token) → matches (wants p) (t ∷ ts) ≡ true
@@ -156,14 +156,16 @@ swapped n m h = eq-eqb m n (sym (eqb-true n m h))
 
 key_first : (n : ℕ) (p : Pattern) → candidate (kind.Key n) ≡ Some p → first_fits p (kind.Key n) ≡ true
 key_first n p h = elim (by_key (n == KEY_INT) (n == KEY_PRINTF) (n == KEY_FREE) p h) [
-    inl g ↦ subst (λ q. first_fits q (kind.Key n) ≡ true) (sym g.0) (swapped n KEY_INT g.1)
+  | inl g ↦ subst (λ q. first_fits q (kind.Key n) ≡ true) (sym g.0) (swapped n KEY_INT g.1)
   | inr (inl g) ↦ subst (λ q. first_fits q (kind.Key n) ≡ true) (sym g.0) (swapped n KEY_PRINTF g.1)
-  | inr (inr g) ↦ subst (λ q. first_fits q (kind.Key n) ≡ true) (sym g.0) (swapped n KEY_FREE g.1) ]
+  | inr (inr g) ↦ subst (λ q. first_fits q (kind.Key n) ≡ true) (sym g.0) (swapped n KEY_FREE g.1)
+]
 
 punct_first : (n : ℕ) (p : Pattern) → candidate (kind.Punct n) ≡ Some p → first_fits p (kind.Punct n) ≡ true
 punct_first n p h = elim (by_punct (n == PUNCT_STAR) (n == PUNCT_SEMICOLON) p h) [
-    inl g ↦ subst (λ q. first_fits q (kind.Punct n) ≡ true) (sym g.0) (swapped n PUNCT_STAR g.1)
-  | inr g ↦ subst (λ q. first_fits q (kind.Punct n) ≡ true) (sym g.0) (swapped n PUNCT_SEMICOLON g.1) ]
+  | inl g ↦ subst (λ q. first_fits q (kind.Punct n) ≡ true) (sym g.0) (swapped n PUNCT_STAR g.1)
+  | inr g ↦ subst (λ q. first_fits q (kind.Punct n) ≡ true) (sym g.0) (swapped n PUNCT_SEMICOLON g.1)
+]
 
 candidate_first : (k : Kind) (p : Pattern) → candidate k ≡ Some p → first_fits p k ≡ true
 candidate_first (kind.Key n) p h = key_first n p h

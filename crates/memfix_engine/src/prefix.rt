@@ -6,7 +6,7 @@ ghost use Rattle.memfix_engine.specs.Prefix.{IsPlace};
 ghost use Rattle.memfix_engine.specs.Progress.{is_declared, wanted, declares, name_fits, admits, names_behind, may_begin, begun, begun_behind, nothing_begun, place_from};
 
 use crate::draft::{Pattern, Want};
-use crate::form::{candidate, fits, wants, HEAD, TAIL};
+use crate::form::{HEAD, TAIL, candidate, fits, wants};
 use crate::kinds::KEY_RETURN;
 use c_lexer::{Kind, Token};
 use mf_list::Seq;
@@ -143,7 +143,12 @@ impl Progress {
         }
     }
 
-    fn admitted(self, alloc: Global, want: Want, kind: &Kind) -> Result<Option<Progress>, AllocError>
+    fn admitted(
+        self,
+        alloc: Global,
+        want: Want,
+        kind: &Kind,
+    ) -> Result<Option<Progress>, AllocError>
         requires { self.at < length (wanted self.part) }
         ensures { IfOk result (λ o. o ≡ admitted self want kind.now) }
     {
