@@ -2,7 +2,7 @@ pub mod EditLemmas
 pub mod Emptied
 pub mod FormLemmas
 pub mod FormTokens
-pub mod NameLemmas
+pub mod DeclaredNames
 pub mod PlaceLemmas
 pub mod ProgressEnds
 pub mod ProgressLemmas

@@ -13,7 +13,7 @@ use Rattle.memfix_engine.specs.declared.draft.Pattern.TheVariants as pattern
 use Rattle.memfix_engine.specs.declared.prefix.Part.TheVariants as part
 use Rattle.memfix_engine.specs.Form.{fits, matches, wants, word_of, word_at, deed_of, candidate, is_main}
 use Rattle.memfix_engine.specs.Progress.{is_declared, declares, admits, names_behind}
-use Rattle.memfix_engine.proofs.NameLemmas.{named, names_step}
+use Rattle.memfix_engine.proofs.DeclaredNames.{named, names_step}
 
 pub and_left : (a b : Bool) → (a && b) ≡ true → a ≡ true
 and_left true b h = refl
