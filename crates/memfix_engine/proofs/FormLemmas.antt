@@ -119,11 +119,11 @@ for_empty (kind.Punct n) h = subst (λ m. candidate (kind.Punct m) ≡ Some patt
 for_empty _ h = cc
 
 -- no return begins a step
-for_none : (k : Kind) → fits (Key KEY_RETURN) k ≡ true → candidate k ≡ None
+pub for_none : (k : Kind) → fits (Key KEY_RETURN) k ≡ true → candidate k ≡ None
 for_none (kind.Key n) h = subst (λ m. candidate (kind.Key m) ≡ None) (eqb-true KEY_RETURN n h) refl
 for_none _ h = cc
 
-called_for : (p : Pattern) (t : Token) (ts : List Token) → matches (wants p) (t ∷ ts) ≡ true → candidate t.kind ≡ Some p
+pub called_for : (p : Pattern) (t : Token) (ts : List Token) → matches (wants p) (t ∷ ts) ≡ true → candidate t.kind ≡ Some p
 called_for pattern.Make t ts h = for_make t.kind (and_left _ _ h)
 called_for pattern.Store t ts h = for_store t.kind (and_left _ _ h)
 called_for pattern.Show t ts h = for_show t.kind (and_left _ _ h)

@@ -1,6 +1,7 @@
 pub mod Blanks
 pub mod ChangeLemmas
 pub mod Counts
+pub mod DeclaredNames
 pub mod EditAlike
 pub mod EditLemmas
 pub mod EditSteps
@@ -11,6 +12,10 @@ pub mod FormTokens
 pub mod GapLemmas
 pub mod NameLemmas
 pub mod OwnFrees
+pub mod PlaceLemmas
+pub mod ProgressEnds
+pub mod ProgressLemmas
+pub mod ProgressParts
 pub mod RepairLemmas
 pub mod SoundLemmas
 pub mod StraightCourses

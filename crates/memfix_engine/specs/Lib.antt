@@ -4,6 +4,7 @@ pub mod Names
 pub mod Reading
 pub mod Reads
 pub mod Prefix
+pub mod Progress
 pub mod Refusal
 pub mod Edit
 pub mod Own

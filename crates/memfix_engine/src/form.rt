@@ -15,7 +15,7 @@ use c_lexer::{Kind, Token};
 use mf_list::Seq;
 use std::alloc::{AllocError, Global};
 
-const HEAD: [Want; 6] = [
+pub(crate) const HEAD: [Want; 6] = [
     Want::Key(KEY_INT),
     Want::Main,
     Want::Punct(PUNCT_OPEN),
@@ -24,7 +24,7 @@ const HEAD: [Want; 6] = [
     Want::Punct(PUNCT_OPEN_BRACE),
 ];
 
-const TAIL: [Want; 4] = [
+pub(crate) const TAIL: [Want; 4] = [
     Want::Key(KEY_RETURN),
     Want::Number,
     Want::Punct(PUNCT_SEMICOLON),
@@ -75,7 +75,7 @@ const FREE: [Want; 5] = [
 
 const EMPTY: [Want; 1] = [Want::Punct(PUNCT_SEMICOLON)];
 
-fn wants(pattern: Pattern) -> &'static [Want]
+pub(crate) fn wants(pattern: Pattern) -> &'static [Want]
     ensures { result.now ≡ wants pattern }
 {
     match pattern {
@@ -93,7 +93,7 @@ fn is_main(word: &[u8]) -> bool
     word == b"main".as_slice()
 }
 
-fn fits(want: Want, kind: &Kind) -> bool
+pub(crate) fn fits(want: Want, kind: &Kind) -> bool
     ensures { result ≡ fits want kind.now }
 {
     match (want, kind) {
@@ -177,7 +177,7 @@ fn number_at(tokens: &[Token], i: usize) -> i32
     }
 }
 
-fn candidate(kind: &Kind) -> Option<Pattern>
+pub(crate) fn candidate(kind: &Kind) -> Option<Pattern>
     ensures { result ≡ candidate kind.now }
 {
     match kind {

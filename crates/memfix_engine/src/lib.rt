@@ -7,6 +7,7 @@ mod form;
 mod items;
 mod kinds;
 mod names;
+mod prefix;
 mod reading;
 mod refusal;
 

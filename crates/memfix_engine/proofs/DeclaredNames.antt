@@ -1,0 +1,95 @@
+-- The names that steps declare, and when a program is read off the steps.
+use Rattle.std.proofs.Common.{◌≡◌, ℕ, suc, Bool, true, false, ◌||◌, cond, nat_eq, List, [], ◌∷◌, ◌++◌, Option, Some, None, option_map, map, refl, sym, ◌∙◌, ap}
+use Rattle.std.specs.Prelude.{if◌then◌else◌, option_and_then}
+use Rattle.std.specs.Cmp.Lexicographic.{pointwise}
+use Rattle.std.proofs.lemmas.List.{map-append}
+use Rattle.c_tree.specs.declared.program.VarDef.{VarDef}
+use Rattle.memfix_engine.specs.declared.draft.Deed.{Deed}
+use Rattle.memfix_engine.specs.declared.draft.Deed.TheVariants as deed
+use Rattle.memfix_engine.specs.declared.draft.Make.{Make}
+use Rattle.memfix_engine.specs.declared.draft.Step.{Step}
+use Rattle.memfix_engine.specs.declared.reading.Reading.{Reading}
+use Rattle.memfix_engine.specs.Reading.{var_of, with_item, made, stored, shown, released, stepped_by, stepped, nothing_read, read_from}
+use Rattle.memfix_engine.specs.Progress.{is_declared}
+use Rattle.memfix_engine.proofs.VarLemmas.{position-cons}
+
+abbrev pub names_of : Reading → List (List ℕ)
+names_of r = map (λ v. v.name) r.vars
+
+-- the names behind one that is declared or used
+abbrev pub named : Bool → List (List ℕ) → List ℕ → Option (List (List ℕ))
+named true names word = if is_declared names word then None else Some (names ++ word ∷ [])
+named false names word = if is_declared names word then Some names else None
+
+-- the names behind a step
+abbrev pub names_step : List (List ℕ) → Deed → Option (List (List ℕ))
+names_step names (deed.Make t) = named true names t.name
+names_step names (deed.Store t) = named false names t.name
+names_step names (deed.Show t) = named false names t.name
+names_step names (deed.Release t) = named false names t.name
+names_step names deed.Empty = Some names
+
+abbrev pub names_from : List (List ℕ) → List Step → Option (List (List ℕ))
+names_from names [] = Some names
+names_from names (s ∷ ss) = option_and_then (λ q. names_from q ss) (names_step names s.deed)
+
+abbrev is_found : Option ℕ → Bool
+is_found None = false
+is_found (Some k) = true
+
+found_head : (b d : Bool) (o : Option ℕ) → d ≡ is_found o → (b || d) ≡ is_found (cond b (Some 0) (option_map suc o))
+found_head true d o h = refl
+found_head false d None h = h
+found_head false d (Some k) h = h
+
+declared_found : (vars : List VarDef) (name : List ℕ) → is_declared (map (λ v. v.name) vars) name ≡ is_found (var_of vars name)
+declared_found [] name = refl
+declared_found (v ∷ vars) name =
+    found_head (pointwise nat_eq v.name name) (is_declared (map (λ v. v.name) vars) name) (var_of vars name) (declared_found vars name)
+    ∙ ap is_found (sym (position-cons (λ v. pointwise nat_eq v.name name) v vars))
+
+made_names : (r : Reading) (s : Step) (t : Make) (o : Option ℕ) (b : Bool) → b ≡ is_found o
+    → option_map names_of (made r s t o) ≡ (if b then None else Some (names_of r ++ t.name ∷ []))
+made_names r s t None b h = rw h (ap Some (map-append (λ v. v.name) r.vars _))
+made_names r s t (Some x) b h = rw h refl
+
+used_names : (r : Reading) (f : ℕ → Reading) (o : Option ℕ) (b : Bool) → b ≡ is_found o → ((x : ℕ) → names_of (f x) ≡ names_of r)
+    → option_map names_of (option_map f o) ≡ (if b then Some (names_of r) else None)
+used_names r f None b h same = rw h refl
+used_names r f (Some x) b h same = rw h (ap Some (same x))
+
+deed_names : (r : Reading) (s : Step) (d : Deed) → option_map names_of (stepped_by r s d) ≡ names_step (names_of r) d
+deed_names r s (deed.Make t) = made_names r s t (var_of r.vars t.name) (is_declared (names_of r) t.name) (declared_found r.vars t.name)
+deed_names r s (deed.Store t) =
+    used_names r (λ x. with_item r (stored t s.start x) s) (var_of r.vars t.name) (is_declared (names_of r) t.name) (declared_found r.vars t.name) (λ x. refl)
+deed_names r s (deed.Show t) =
+    used_names r (λ x. with_item r (shown t s.start x) s) (var_of r.vars t.name) (is_declared (names_of r) t.name) (declared_found r.vars t.name) (λ x. refl)
+deed_names r s (deed.Release t) =
+    used_names r (released r s t) (var_of r.vars t.name) (is_declared (names_of r) t.name) (declared_found r.vars t.name) (λ x. refl)
+deed_names r s deed.Empty = refl
+
+names_next : (ss : List Step) (o : Option Reading) → ((q : Reading) → option_map names_of (read_from q ss) ≡ names_from (names_of q) ss)
+    → option_map names_of (option_and_then (λ q. read_from q ss) o) ≡ option_and_then (λ q. names_from q ss) (option_map names_of o)
+names_next ss None h = refl
+names_next ss (Some q) h = h q
+
+-- a reading goes on where its names do
+pub names_read : (r : Reading) (ss : List Step) → option_map names_of (read_from r ss) ≡ names_from (names_of r) ss
+names_read r [] = refl
+names_read r (s ∷ ss) =
+    names_next ss (stepped r s) (λ q. names_read q ss) ∙ ap (option_and_then (λ q. names_from q ss)) (deed_names r s s.deed)
+
+-- the reading of some steps
+pub record Read (ss : List Step) : Type 0 where
+  pub reading : Reading
+  pub is : read_from nothing_read ss ≡ Some reading
+
+mapped_read : (ss : List Step) (o : Option Reading) (names : List (List ℕ)) → read_from nothing_read ss ≡ o → option_map names_of o ≡ Some names → Read ss
+mapped_read ss None names e h = absurd cc
+mapped_read ss (Some r) names e h = record { reading = r; is = e }
+
+pub read_named : (ss : List Step) (names : List (List ℕ)) → names_from [] ss ≡ Some names → Read ss
+read_named ss names h = mapped_read ss (read_from nothing_read ss) names refl (names_read nothing_read ss ∙ h)
+
+pub named_read : (ss : List Step) (r : Reading) → read_from nothing_read ss ≡ Some r → names_from [] ss ≡ Some (names_of r)
+named_read ss r h = sym (names_read nothing_read ss) ∙ ap (option_map names_of) h
