@@ -1,6 +1,9 @@
+pub mod CommandLemmas
 pub mod EditLemmas
 pub mod Emptied
 pub mod FormLemmas
 pub mod FormTokens
+pub mod NotesLemmas
+pub mod ReadsLemmas
 pub mod TextLemmas
 pub mod VarLemmas

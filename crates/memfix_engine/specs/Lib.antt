@@ -3,8 +3,12 @@ pub mod Form
 pub mod Reading
 pub mod Reads
 pub mod Prefix
+pub mod Notes
 pub mod Refusal
+pub mod Source
 pub mod Edit
 pub mod Own
 pub mod Repair
+pub mod Outcome
+pub mod Command
 pub mod Straight
