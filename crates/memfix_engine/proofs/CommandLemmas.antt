@@ -9,7 +9,7 @@ use Rattle.memfix_engine.specs.declared.outcome.Outcome.TheVariants.{Done, Sourc
 use Rattle.memfix_engine.specs.declared.refusal.SourceRefusal.{SourceRefusal}
 use Rattle.memfix_engine.specs.Reads.{Reads}
 use Rattle.memfix_engine.specs.Refusal.{RefusesSource, source_limit}
-use Rattle.memfix_engine.specs.Outcome.{IsRepaired, IsLimit, IsSourceRefused, Due, usage, refused, limit, read_fault, memory, is_repair, is_done, status_of, ComesTo}
+use Rattle.memfix_engine.specs.Outcome.{IsRepaired, IsSourceRefused, Due, usage, refused, limit, read_fault, memory, is_repair, is_done, status_of, ComesTo}
 use Rattle.memfix_engine.proofs.ReadsLemmas.{read_not_lexical, not_built_not_lexical, not_built_not_read, refused_not_read, refused_not_deep, deep_not_lexical}
 use Rattle.memfix_engine.specs.Command.{Said, Cut, IsStatusOf, Written, Finishes}
 

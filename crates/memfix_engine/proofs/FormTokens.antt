@@ -18,7 +18,7 @@ use Rattle.memfix_engine.specs.declared.draft.Pattern.{Pattern}
 use Rattle.memfix_engine.specs.declared.draft.Pattern.TheVariants as pattern
 use Rattle.memfix_engine.specs.declared.draft.Step.{Step}
 use Rattle.memfix_engine.specs.declared.draft.Draft.{Draft}
-use Rattle.memfix_engine.specs.Form.{fits, matches, wants, head_pattern, tail_pattern, Steps, none, more, Spells, IsForm}
+use Rattle.memfix_engine.specs.Form.{fits, matches, wants, head_pattern, tail_pattern, Steps, none, more, IsForm}
 
 -- a token that is neither refused nor `if` nor `else`
 record IsPlain (k : Kind) : Type 0 where

@@ -1,5 +1,5 @@
 -- A text has one answer of the lexer, and its tokens have one draft: so each refusal excludes the others, and any program.
-use Rattle.std.proofs.Common.{◌≡◌, Bool, true, false, ℕ, List, [], ◌∷◌, ◌++◌, Option, Some, None, Result, Ok, Err, IfOk, IfSome, IfNone, length, sym, ◌∙◌, ap, subst, refl, append_assoc, arith}
+use Rattle.std.proofs.Common.{◌≡◌, ℕ, List, [], ◌∷◌, ◌++◌, Option, Some, None, Result, Ok, Err, IfOk, IfSome, IfNone, length, sym, ◌∙◌, ap, subst, refl, append_assoc, arith}
 use Rattle.std.proofs.lemmas.List.{append-nil}
 use Rattle.std.specs.declared.alloc.AllocError.{AllocError}
 use Rattle.c_lexer.specs.declared.reading.Reading.{Reading}
@@ -7,8 +7,7 @@ use Rattle.c_lexer.specs.declared.token.Token.{Token}
 use Rattle.c_lexer.specs.declared.token.Tokens.{Tokens}
 use Rattle.c_lexer.specs.declared.refusal.LexRefusal.{LexRefusal}
 use Rattle.c_lexer.specs.declared.refusal.LexRefusal.TheVariants.{Depth}
-use Rattle.c_lexer.specs.Nest.{at_first, first_deep}
-use Rattle.c_lexer.specs.Outcome.{AreTokens, Answers, answer_for, first_refused, unless_refused, unless_deep}
+use Rattle.c_lexer.specs.Outcome.{AreTokens, Answers, answer_for, unless_refused, unless_deep}
 use Rattle.c_lexer.proofs.Unique.{reading_unique}
 use Rattle.c_tree.specs.declared.program.Program.{Program}
 use Rattle.memfix_engine.specs.declared.draft.Draft.{Draft}
@@ -18,7 +17,7 @@ use Rattle.memfix_engine.specs.declared.refusal.SourceRefusal.TheVariants as sou
 use Rattle.memfix_engine.specs.Form.{IsForm}
 use Rattle.memfix_engine.specs.Reading.{program_of}
 use Rattle.memfix_engine.specs.Reads.{Reads, IsFirst}
-use Rattle.memfix_engine.specs.Prefix.{IsPlace, Begins, Stops}
+use Rattle.memfix_engine.specs.Prefix.{IsPlace, Stops}
 use Rattle.memfix_engine.specs.Refusal.{IsNotBuilt, RefusesSource}
 use Rattle.memfix_engine.specs.Outcome.{status_of_lex, status_of_source}
 use Rattle.memfix_engine.specs.Source.{IsSource}

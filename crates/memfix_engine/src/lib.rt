@@ -16,3 +16,6 @@ mod source;
 pub use command::memfix;
 pub use refusal::{RepairRefusal, SourceRefusal};
 pub use source::read_source;
+
+#[cfg(test)]
+mod tests;

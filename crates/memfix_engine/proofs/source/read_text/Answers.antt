@@ -1,6 +1,5 @@
 -- The place is that of the text's own tokens.
-use Rattle.std.proofs.Common.{◌≡◌, List, rules, sym, ◌∙◌, subst}
-use Rattle.c_lexer.specs.declared.token.Token.{Token}
+use Rattle.std.proofs.Common.{◌≡◌, rules, sym, ◌∙◌, subst}
 use Rattle.c_lexer.specs.Outcome.{AreTokens}
 use Rattle.c_tree.specs.declared.program.Program.{Program}
 use Rattle.memfix_engine.specs.Reads.{IsFirst}
