@@ -1,5 +1,6 @@
 pub mod Blanks
 pub mod ChangeLemmas
+pub mod CommandLemmas
 pub mod Counts
 pub mod DeclaredNames
 pub mod EditAlike
@@ -11,11 +12,14 @@ pub mod FormLemmas
 pub mod FormTokens
 pub mod GapLemmas
 pub mod NameLemmas
+mod NotesExamples
+pub mod NotesLemmas
 pub mod OwnFrees
 pub mod PlaceLemmas
 pub mod ProgressEnds
 pub mod ProgressLemmas
 pub mod ProgressParts
+pub mod ReadsLemmas
 pub mod RepairLemmas
 pub mod SoundLemmas
 pub mod StraightCourses

@@ -1,6 +1,7 @@
 //! The repair of a C text, from bytes to bytes.
 #![tactic(auto)]
 
+mod command;
 mod draft;
 mod edit;
 mod form;
@@ -8,7 +9,15 @@ mod items;
 mod kinds;
 mod names;
 mod prefix;
+mod notes;
+mod outcome;
 mod reading;
 mod refusal;
+mod source;
 
+pub use command::memfix;
 pub use refusal::{RepairRefusal, SourceRefusal};
+pub use source::read_source;
+
+#[cfg(test)]
+mod tests;

@@ -1,0 +1,145 @@
+-- A text has one answer of the lexer, and its tokens have one draft: so each refusal excludes the others, and any program.
+use Rattle.std.proofs.Common.{◌≡◌, ℕ, List, [], ◌∷◌, ◌++◌, Option, Some, None, Result, Ok, Err, IfOk, IfSome, IfNone, length, sym, ◌∙◌, ap, subst, refl, append_assoc, arith}
+use Rattle.std.proofs.lemmas.List.{append-nil}
+use Rattle.std.specs.declared.alloc.AllocError.{AllocError}
+use Rattle.c_lexer.specs.declared.reading.Reading.{Reading}
+use Rattle.c_lexer.specs.declared.token.Token.{Token}
+use Rattle.c_lexer.specs.declared.token.Tokens.{Tokens}
+use Rattle.c_lexer.specs.declared.refusal.LexRefusal.{LexRefusal}
+use Rattle.c_lexer.specs.declared.refusal.LexRefusal.TheVariants.{Depth}
+use Rattle.c_lexer.specs.Outcome.{AreTokens, Answers, answer_for, unless_refused, unless_deep}
+use Rattle.c_lexer.proofs.Unique.{reading_unique}
+use Rattle.c_tree.specs.declared.program.Program.{Program}
+use Rattle.memfix_engine.specs.declared.draft.Draft.{Draft}
+use Rattle.memfix_engine.specs.declared.source.Source.{Source}
+use Rattle.memfix_engine.specs.declared.refusal.SourceRefusal.{SourceRefusal}
+use Rattle.memfix_engine.specs.declared.refusal.SourceRefusal.TheVariants as source
+use Rattle.memfix_engine.specs.Form.{IsForm}
+use Rattle.memfix_engine.specs.Reading.{program_of}
+use Rattle.memfix_engine.specs.Reads.{Reads, IsFirst}
+use Rattle.memfix_engine.specs.Prefix.{IsPlace, Stops}
+use Rattle.memfix_engine.specs.Refusal.{IsNotBuilt, RefusesSource}
+use Rattle.memfix_engine.specs.Outcome.{status_of_lex, status_of_source}
+use Rattle.memfix_engine.specs.Source.{IsSource}
+use Rattle.memfix_engine.proofs.FormLemmas.{IsForm-unique}
+use Rattle.memfix_engine.proofs.FormTokens.{form_not_refused, form_not_deep}
+
+-- a read text has a program
+pub source_reads : (b : List ℕ) (s : Source) → IsSource b s → Reads b s.program
+source_reads b s h = record { tokens = s.tokens.list; scanned = record { last_comment = s.tokens.last_comment; reads = h.are.reads }; first = h.first }
+
+-- tokens without a draft, or with a draft without a program, are not of the first form
+
+pub not_first_by_form : (ts : List Token) → ((d : Draft) → IsForm ts d → ⊥) → (p : Program) → IsFirst ts p → ⊥
+not_first_by_form ts n p h = n h.draft h.form
+
+not_first_by_names : (ts : List Token) (d : Draft) → IsForm ts d → None ≡ program_of d → (p : Program) → IsFirst ts p → ⊥
+not_first_by_names ts d f n p h =
+    let same : h.draft ≡ d = IsForm-unique ts h.draft d h.form f in
+    let e : Some p ≡ None = sym h.program ∙ ap program_of same ∙ sym n in
+    cc
+
+-- and otherwise they have the program of their draft
+
+pub first_found : (ts : List Token) (d : Draft) → IsForm ts d → (r : Result (Option Program) AllocError) → IfOk r (λ o. o ≡ program_of d) → IfOk r (λ o. IfSome o (IsFirst ts))
+first_found ts d f (Ok (Some p)) is = record { draft = d; form = f; program = sym is }
+first_found ts d f (Ok None) is = tt
+first_found ts d f (Err e) is = tt
+
+pub first_absent : (ts : List Token) (d : Draft) → IsForm ts d → (r : Result (Option Program) AllocError) → IfOk r (λ o. o ≡ program_of d)
+    → IfOk r (λ o. IfNone o ((p : Program) → IsFirst ts p → ⊥))
+first_absent ts d f (Ok (Some p)) is = tt
+first_absent ts d f (Ok None) is = not_first_by_names ts d f is
+first_absent ts d f (Err e) is = tt
+
+-- tokens that stop somewhere to be the beginning of the first form are not of it
+pub place_not_first : (size : ℕ) (ts : List Token) (at : ℕ) → IsPlace size ts at → (p : Program) → IsFirst ts p → ⊥
+place_not_first size ts at h p f = by_behind h.behind h.whole h.stops
+  where
+    by_behind : (behind : List Token) → ts ≡ h.front ++ behind → Stops h.front behind → ⊥
+    by_behind [] whole stops = stops p (subst (λ us. IsFirst us p) (whole ∙ append-nil h.front) f)
+    by_behind (t ∷ behind) whole stops =
+        let split : ts ≡ (h.front ++ t ∷ []) ++ behind = whole ∙ sym (append_assoc h.front (t ∷ []) behind) in
+        stops (record { more = behind; program = p; first = subst (λ us. IsFirst us p) split f })
+
+-- a text has one answer
+pub answer_unique : (b : List ℕ) (x y : Result Tokens LexRefusal) → Answers b x → Answers b y → x ≡ y
+answer_unique b x y h k = sym h.is ∙ ap (answer_for (length b)) (reading_unique b h.reading k.reading h.reads k.reads) ∙ k.is
+
+-- tokens in which nothing is refused are an answer
+pub tokens_answer : (b : List ℕ) (ts : Tokens) → AreTokens b ts → Answers b (Ok ts)
+tokens_answer b ts h =
+    let r : Reading = record { tokens = ts.list; last_comment = ts.last_comment; fault = None } in
+    record {
+      reading = r;
+      reads = h.reads;
+      is =
+          ap (unless_refused (length b) r) h.none_refused ∙ ap (unless_deep (length b) r) h.none_deep
+          ∙ ap (λ n. let x : Result Tokens LexRefusal = Ok (record { list = ts.list; last_comment = ts.last_comment; size = n }) in x) (sym h.size);
+    }
+
+-- the lexer refuses nothing in a text that reads as a program
+pub record Lexed (b : List ℕ) (p : Program) : Type 0 where
+  pub tokens : Tokens
+  pub are : AreTokens b tokens
+  pub first : IsFirst tokens.list p
+
+pub reads_lexed : (b : List ℕ) (p : Program) → Reads b p → Lexed b p
+reads_lexed b p h =
+    record {
+      tokens = record { list = h.tokens; last_comment = h.scanned.last_comment; size = length b };
+      are = record {
+        reads = h.scanned.reads;
+        size = refl;
+        none_refused = form_not_refused h.tokens h.first.draft h.first.form;
+        none_deep = form_not_deep h.tokens h.first.draft h.first.form;
+      };
+      first = h.first;
+    }
+
+-- tokens that are not of the first form, with their place
+pub not_built_at : (b : List ℕ) (ts : Tokens) (at : ℕ) → AreTokens b ts → IsPlace ts.size ts.list at → IsNotBuilt b at
+not_built_at b ts at h place = record { tokens = ts; are = h; place = subst (λ n. IsPlace n ts.list at) h.size place }
+
+-- What excludes what.
+
+answered_not_refused : (b : List ℕ) (ts : Tokens) (r : LexRefusal) → Answers b (Ok ts) → Answers b (Err r) → ⊥
+answered_not_refused b ts r h k = let e : Ok ts ≡ Err r = answer_unique b (Ok ts) (Err r) h k in cc
+
+pub refusal_unique : (b : List ℕ) (r s : LexRefusal) → Answers b (Err r) → Answers b (Err s) → r ≡ s
+refusal_unique b r s h k = let e : (let x : Result Tokens LexRefusal = Err r in x) ≡ Err s = answer_unique b (Err r) (Err s) h k in cc
+
+pub read_not_lexical : (b : List ℕ) (p : Program) (r : LexRefusal) → Reads b p → Answers b (Err r) → ⊥
+read_not_lexical b p r h k = let l = reads_lexed b p h in answered_not_refused b l.tokens r (tokens_answer b l.tokens l.are) k
+
+pub not_built_not_lexical : (b : List ℕ) (at : ℕ) (r : LexRefusal) → IsNotBuilt b at → Answers b (Err r) → ⊥
+not_built_not_lexical b at r h k = answered_not_refused b h.tokens r (tokens_answer b h.tokens h.are) k
+
+pub not_built_not_read : (b : List ℕ) (at : ℕ) (p : Program) → IsNotBuilt b at → Reads b p → ⊥
+not_built_not_read b at p h k =
+    let l = reads_lexed b p k in
+    let e : (let x : Result Tokens LexRefusal = Ok l.tokens in x) ≡ Ok h.tokens =
+    answer_unique b (Ok l.tokens) (Ok h.tokens) (tokens_answer b l.tokens l.are) (tokens_answer b h.tokens h.are) in
+    let same : l.tokens ≡ h.tokens = cc in
+    place_not_first (length b) h.tokens.list at h.place p (subst (λ ts. IsFirst ts.list p) same l.first)
+
+-- a refused source reads as no program, and is not too deep
+
+pub refused_not_read : (b : List ℕ) (r : SourceRefusal) (p : Program) → RefusesSource b r → status_of_source r ≡ 1 → Reads b p → ⊥
+refused_not_read b (source.Lex r) p h one k = read_not_lexical b p r k h
+refused_not_read b (source.NotBuilt at) p h one k = not_built_not_read b at p h k
+refused_not_read b source.Memory p h one k = let no : ⊥ = omega (arith, one) in no
+
+lex_not_deep : (b : List ℕ) (r : LexRefusal) (at : ℕ) → Answers b (Err r) → status_of_lex r ≡ 1 → Answers b (Err (Depth at)) → ⊥
+lex_not_deep b r at h one k =
+    let same : status_of_lex r ≡ 4 = ap status_of_lex (refusal_unique b r (Depth at) h k) in
+    let no : ⊥ = omega (arith, one, same) in no
+
+pub refused_not_deep : (b : List ℕ) (r : SourceRefusal) (at : ℕ) → RefusesSource b r → status_of_source r ≡ 1 → Answers b (Err (Depth at)) → ⊥
+refused_not_deep b (source.Lex r) at h one k = lex_not_deep b r at h one k
+refused_not_deep b (source.NotBuilt n) at h one k = not_built_not_lexical b n (Depth at) h k
+refused_not_deep b source.Memory at h one k = let no : ⊥ = omega (arith, one) in no
+
+-- a source that is too deep is not refused otherwise
+pub deep_not_lexical : (b : List ℕ) (at : ℕ) (r : LexRefusal) → Answers b (Err (Depth at)) → Answers b (Err r) → status_of_lex r ≡ 1 → ⊥
+deep_not_lexical b at r h k one = lex_not_deep b r at k one h

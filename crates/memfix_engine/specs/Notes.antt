@@ -1,0 +1,83 @@
+-- The lines on notes. Each ends with a newline byte.
+use Rattle.std.specs.Prelude.{ℕ, ◌+◌, Bool, ◌==◌, List, [], ◌∷◌, ◌++◌, length, take, count_by, codes, decimal, slice_get, unwrap_or}
+use Rattle.std.specs.List.{after_last}
+use Rattle.c_lexer.specs.declared.refusal.LexRefusal.{LexRefusal}
+use Rattle.c_lexer.specs.declared.refusal.LexRefusal.TheVariants as lex
+use Rattle.c_lexer.specs.Words.{refused_words}
+use Rattle.memfix_engine.specs.declared.refusal.SourceRefusal.{SourceRefusal}
+use Rattle.memfix_engine.specs.declared.refusal.SourceRefusal.TheVariants as source
+
+abbrev pub is_newline : ℕ → Bool
+is_newline c = c == 10
+
+-- the line of an offset: 1, and 1 more for each newline before it
+abbrev pub line_number : List ℕ → ℕ → ℕ
+line_number bytes at = count_by is_newline (take at bytes) + 1
+
+-- its column: 1, and 1 more for each byte between the last newline before it and the offset
+abbrev pub column_number : List ℕ → ℕ → ℕ
+column_number bytes at = length (after_last is_newline (take at bytes)) + 1
+
+-- a line that speaks of no offset
+abbrev pub line_of : List ℕ → List ℕ
+line_of text = codes "memfix: " ++ text ++ 10 ∷ []
+
+-- the line of a text that speaks of a place
+abbrev pub place_line : (line column : ℕ) (text : List ℕ) → List ℕ
+place_line line column text =
+    codes "memfix: line " ++ (decimal line ++ (codes ", column " ++ (decimal column ++ (codes ": " ++ (text ++ 10 ∷ [])))))
+
+abbrev pub line_at : (bytes : List ℕ) (at : ℕ) (text : List ℕ) → List ℕ
+line_at bytes at text = place_line (line_number bytes at) (column_number bytes at) text
+
+abbrev pub usage_line : List ℕ
+usage_line = line_of (codes "usage: repair [--cert], verify, replay --steps N [--fails BITS] [--input TEXT], selfrun N")
+
+abbrev pub too_long_line : List ℕ
+too_long_line = line_of (codes "limit: more than 1048576 bytes")
+
+abbrev pub read_fault_line : List ℕ
+read_fault_line = line_of (codes "read fault")
+
+abbrev pub memory_line : List ℕ
+memory_line = line_of (codes "out of memory")
+
+-- The lines of refused texts.
+
+-- the texts of refused punctuators and of a number of another form, from row 33 on
+abbrev pub punctuator_texts : List (List ℕ)
+punctuator_texts =
+    codes "directive" ∷ codes "directive" ∷ codes "digraph" ∷ codes "digraph" ∷ codes "remainder assignment" ∷ codes "digraph" ∷
+    codes "address-of or bit-and" ∷ codes "bit assignment" ∷ codes "member of a struct value" ∷ codes "variable arguments" ∷
+    codes "quotient assignment" ∷ codes "label or conditional" ∷ codes "digraph" ∷ codes "digraph" ∷ codes "digraph" ∷
+    codes "left shift" ∷ codes "left shift" ∷ codes "right shift" ∷ codes "right shift" ∷ codes "conditional operator" ∷
+    codes "bit-xor" ∷ codes "bit-xor" ∷ codes "bit-or" ∷ codes "bit-or" ∷ codes "bit-not" ∷ codes "number form" ∷ []
+
+-- the texts of the refused rows; a word's text is its spelling
+abbrev pub row_texts : List (List ℕ)
+row_texts = refused_words ++ punctuator_texts
+
+abbrev pub row_text : ℕ → List ℕ
+row_text row = unwrap_or (slice_get row_texts row) []
+
+abbrev pub construct_text : ℕ → List ℕ
+construct_text row = codes "not in the profile: " ++ row_text row
+
+abbrev pub depth_text : List ℕ
+depth_text = codes "limit: more than 256 levels"
+
+abbrev pub lex_line : List ℕ → LexRefusal → List ℕ
+lex_line bytes (lex.BadByte at) = line_at bytes at (codes "byte not allowed here")
+lex_line bytes (lex.OpenComment at) = line_at bytes at (codes "comment without an end")
+lex_line bytes (lex.OpenText at) = line_at bytes at (codes "text without an end")
+lex_line bytes (lex.BadEscape at) = line_at bytes at (codes "escape not in the profile")
+lex_line bytes (lex.WideNumber at) = line_at bytes at (codes "number too large")
+lex_line bytes (lex.Construct row at) = line_at bytes at (construct_text row)
+lex_line bytes (lex.Depth at) = line_at bytes at depth_text
+lex_line bytes lex.Memory = memory_line
+
+-- the line of a source that is refused
+abbrev pub source_line : List ℕ → SourceRefusal → List ℕ
+source_line bytes (source.Lex refusal) = lex_line bytes refusal
+source_line bytes (source.NotBuilt at) = line_at bytes at (codes "not built yet")
+source_line bytes source.Memory = memory_line

@@ -1,0 +1,211 @@
+use super::*;
+use mf_io::{MemSink, MemSource};
+use std::alloc::{AllocError, Global};
+use std::test::Fail;
+
+const USAGE: &str =
+    "memfix: usage: repair [--cert], verify, replay --steps N [--fails BITS] [--input TEXT], selfrun N\n";
+
+const ONE: &str =
+    "int main(void) { int *p = malloc(sizeof(int)); *p = 7; printf(\"%d\\n\", *p); return 0; }";
+
+const ONE_REPAIRED: &str =
+    "int main(void) { int *p = malloc(sizeof(int)); *p = 7; printf(\"%d\\n\", *p);  free(p); return 0; }";
+
+const GUARDED: &str =
+    "int main(void) { int *p = malloc(sizeof(int)); if (p == NULL) { return 1; } *p = 7; printf(\"%d\\n\", *p); return 0; }";
+
+// A free before a store.
+const EARLY: &str = "int main(void) { int *a = malloc(sizeof(int)); free(a); *a = 1; return 0; }";
+
+const EARLY_REPAIRED: &str =
+    "int main(void) { int *a = malloc(sizeof(int));        ; *a = 1;  free(a); return 0; }";
+
+// Its own free fits. An include line and comments stand between the tokens.
+const OWN: &str =
+    "#include <stdio.h>\nint main(void) { int *cell = malloc(sizeof(int)); /* cell */ free(cell); return 0; } // end";
+
+// The words and the source of a call, and the calls of source, output and notes that fail: from 1,
+// or 0 for none.
+#[derive(Drop)]
+struct Call<'a> {
+    words: &'a str,
+    source: &'a str,
+    fails: (u64, u64, u64),
+}
+
+// What it answers, and how often it read.
+#[derive(Drop)]
+struct Answer {
+    status: u8,
+    output: Vec<u8>,
+    notes: Vec<u8>,
+    reads: u64,
+}
+
+fn words_of(alloc: Global, text: &str) -> Result<Vec<String>, AllocError> {
+    let mut words = Vec::new(alloc);
+    for word in text.split_whitespace() {
+        words.push(String::from_str(alloc, word)?)?;
+    }
+    Ok(words)
+}
+
+fn answer_of(alloc: Global, call: &Call) -> Result<Answer, AllocError> {
+    let words = words_of(alloc, call.words)?;
+    let mut bytes = Vec::new(alloc);
+    bytes.extend_from_slice(call.source.as_bytes())?;
+    let (read, write, note) = call.fails;
+    let mut source = MemSource::new(bytes, 7, vec![in alloc; read]?);
+    let mut output = MemSink::new(alloc, 200, 9, vec![in alloc; write]?)?;
+    let mut notes = MemSink::new(alloc, 200, 9, vec![in alloc; note]?)?;
+    let status = memfix(
+        alloc,
+        words.as_slice(),
+        &mut source,
+        &mut output,
+        &mut notes,
+    );
+    let MemSink { taken: output, .. } = output;
+    let MemSink { taken: notes, .. } = notes;
+    Ok(Answer {
+        status,
+        output,
+        notes,
+        reads: source.calls,
+    })
+}
+
+#[test]
+fn each_call_has_its_status_and_its_bytes(rt: HostRuntime) -> Result<(), Fail> {
+    for (words, source, fails, status, output, notes) in [
+        ("repair", ONE, (0, 0, 0), 0, ONE_REPAIRED, ""),
+        ("repair", EARLY, (0, 0, 0), 0, EARLY_REPAIRED, ""),
+        ("repair", OWN, (0, 0, 0), 0, OWN, ""),
+        (
+            "repair",
+            GUARDED,
+            (0, 0, 0),
+            1,
+            "",
+            "memfix: line 1, column 48: not built yet\n",
+        ),
+        ("repair --loud", ONE, (0, 0, 0), 2, "", USAGE),
+        ("", ONE, (0, 0, 0), 2, "", USAGE),
+        // A fault in mid-stream.
+        ("repair", ONE, (2, 0, 0), 5, "", "memfix: read fault\n"),
+        ("repair", ONE, (0, 2, 0), 6, "int main(", ""),
+        ("repair", GUARDED, (0, 0, 2), 6, "", "memfix: l"),
+    ] {
+        let call = Call {
+            words,
+            source,
+            fails,
+        };
+        let answer = answer_of(rt.alloc(), &call)?;
+        assert_eq!(rt; answer.status, status, "{words} {source}");
+        assert_eq!(rt; answer.output.as_slice(), output.as_bytes());
+        assert_eq!(rt; answer.notes.as_slice(), notes.as_bytes());
+        assert_eq!(rt; answer.reads == 0, status == 2);
+    }
+    Ok(())
+}
+
+#[test]
+fn each_refused_text_has_its_line(rt: HostRuntime) -> Result<(), Fail> {
+    for (source, line) in [
+        (
+            "int main(void) {\n  @",
+            "line 2, column 3: byte not allowed here",
+        ),
+        ("x = 1; /* y", "line 1, column 8: comment without an end"),
+        ("\n\n'ab'", "line 3, column 1: text without an end"),
+        ("\"a\\q\"", "line 1, column 3: escape not in the profile"),
+        ("x 2147483648", "line 1, column 3: number too large"),
+        ("x =\nauto", "line 2, column 1: not in the profile: auto"),
+        (
+            "a >>= b",
+            "line 1, column 3: not in the profile: right shift",
+        ),
+        (
+            "x = 010;",
+            "line 1, column 5: not in the profile: number form",
+        ),
+        // A lexical fault comes before a refused token that stands before it.
+        ("auto @", "line 1, column 6: byte not allowed here"),
+        ("", "line 1, column 1: not built yet"),
+        ("int main(void) {\n}", "line 2, column 1: not built yet"),
+        (
+            "int main(void) { return 0;\n",
+            "line 2, column 1: not built yet",
+        ),
+    ] {
+        let call = Call {
+            words: "repair",
+            source,
+            fails: (0, 0, 0),
+        };
+        let answer = answer_of(rt.alloc(), &call)?;
+        let notes = format!(in rt.alloc(); "memfix: {line}\n")?;
+        assert_eq!(rt; answer.status, 1, "{source}");
+        assert_eq!(rt; answer.notes.as_slice(), notes.as_bytes(), "{source}");
+        assert!(rt; answer.output.is_empty());
+    }
+    Ok(())
+}
+
+// The status and the notes of `repair` on so many bytes of one kind.
+fn answer_of_many(alloc: Global, byte: u8, count: usize) -> Result<(u8, Vec<u8>), AllocError> {
+    let words = words_of(alloc, "repair")?;
+    let mut bytes = Vec::new(alloc);
+    bytes.resize(count, byte)?;
+    let mut source = MemSource::new(bytes, 4096, Vec::new(alloc));
+    let mut output = MemSink::new(alloc, 200, 200, Vec::new(alloc))?;
+    let mut notes = MemSink::new(alloc, 200, 200, Vec::new(alloc))?;
+    let status = memfix(
+        alloc,
+        words.as_slice(),
+        &mut source,
+        &mut output,
+        &mut notes,
+    );
+    let MemSink { taken: notes, .. } = notes;
+    Ok((status, notes))
+}
+
+#[test]
+fn each_limit_has_its_line(rt: HostRuntime) -> Result<(), Fail> {
+    for (byte, count, wanted, line) in [
+        (b' ', SOURCE_LIMIT + 1, 4, "limit: more than 1048576 bytes"),
+        (
+            b' ',
+            SOURCE_LIMIT,
+            1,
+            "line 1, column 1048577: not built yet",
+        ),
+        (
+            b'(',
+            257,
+            4,
+            "line 1, column 257: limit: more than 256 levels",
+        ),
+        (b'(', 256, 1, "line 1, column 1: not built yet"),
+    ] {
+        let (status, notes) = answer_of_many(rt.alloc(), byte, count)?;
+        let said = format!(in rt.alloc(); "memfix: {line}\n")?;
+        assert_eq!(rt; status, wanted, "{line}");
+        assert_eq!(rt; notes.as_slice(), said.as_bytes());
+    }
+    Ok(())
+}
+
+#[test]
+fn a_text_is_read_and_repaired(rt: HostRuntime) -> Result<(), Fail> {
+    let alloc = rt.alloc();
+    let program = read_source(alloc, ONE.as_bytes())?;
+    assert_eq!(rt; program.vars.len(), 2);
+    assert_eq!(rt; program.gaps, 5);
+    let text = repair(alloc, ONE.as_bytes(), false)?;
+    assert_eq!(rt; text.as_slice(), ONE_REPAIRED.as_bytes());
+    Ok(())
+}
