@@ -1,4 +1,5 @@
 pub mod EditLemmas
+pub mod EditTokens
 pub mod Emptied
 pub mod FormLemmas
 pub mod FormTokens

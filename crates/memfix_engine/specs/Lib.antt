@@ -1,3 +1,4 @@
+pub mod Access
 pub mod FreeText
 pub mod Form
 pub mod Reading

@@ -6,6 +6,7 @@ mod edit;
 mod form;
 mod items;
 mod kinds;
+mod own;
 mod reading;
 mod refusal;
 
