@@ -1,10 +1,9 @@
 -- Where tokens stand in order, those within a free stand side by side.
-use Rattle.std.proofs.Common.{◌≡◌, ℕ, zero, suc, ◌+◌, ◌-◌, ◌<◌, ◌≤◌, Bool, true, false, nat_lt, nat_le, ◌&&◌, List, [], ◌∷◌, length, get_or, take, drop, refl, ap, arith, subst}
+use Rattle.std.proofs.Common.{◌≡◌, ℕ, zero, suc, ◌+◌, ◌-◌, ◌<◌, ◌≤◌, Bool, true, false, nat_lt, nat_le, ◌&&◌, List, [], ◌∷◌, length, get_or, take, drop, refl, ap, ◌∙◌, arith, subst}
 use Rattle.std.specs.Prelude.{filter}
 use Rattle.std.specs.List.{AllWithin}
 use Rattle.std.specs.List.Sorted.{IsNonDecreasingBy, IsPartitionPoint}
 use Rattle.std.proofs.lemmas.List.Sorted.{IsNonDecreasingBy-from_all_adjacent}
-use Rattle.std.proofs.lemmas.Bool.{lt-ltb, le-ltb, ltb-true, ltb-false}
 use Rattle.std.proofs.lemmas.Bool.Decides.{nat_tests}
 use Rattle.std.proofs.lemmas.Grind.{common_steps}
 use Rattle.c_lexer.specs.declared.token.Token.{Token}
@@ -69,12 +68,12 @@ starts_ascend ts h = IsNonDecreasingBy-from_all_adjacent (λ (t : Token). t.star
 pub ends_ascend : (ts : List Token) → AreInOrder ts → IsNonDecreasingBy (λ (t : Token). t.end) ts
 ends_ascend ts h = IsNonDecreasingBy-from_all_adjacent (λ (t : Token). t.end) ts (ends_rise 0 ts h)
 
--- the places where a free's tokens begin, and behind them
-pub record AreAround (ts : List Token) (f : Free) (s n : ℕ) : Type 0 where
+-- the places where a free's tokens begin, and behind them; `us` are the tokens from there on
+pub record AreAround (ts us : List Token) (f : Free) (s n : ℕ) : Type 0 where
   pub before : AllWithin (λ (t : Token). nat_lt t.start f.start ≡ true) ts 0 s
   pub from : AllWithin (λ (t : Token). nat_lt t.start f.start ≡ false) ts s (length ts)
-  pub inside : AllWithin (λ (t : Token). nat_lt t.end f.end ≡ true) (drop s ts) 0 n
-  pub past : AllWithin (λ (t : Token). nat_lt t.end f.end ≡ false) (drop s ts) n (length (drop s ts))
+  pub inside : AllWithin (λ (t : Token). nat_lt t.end f.end ≡ true) us 0 n
+  pub past : AllWithin (λ (t : Token). nat_lt t.end f.end ≡ false) us n (length us)
 
 is_before : (f : Free) (t : Token) → nat_lt t.start f.start ≡ true → is_within f t ≡ false
 is_before f t h = grind (arith, nat_tests)
@@ -85,15 +84,15 @@ is_inside f t h l = grind (arith, nat_tests)
 is_past : (f : Free) (t : Token) → nat_lt t.end f.end ≡ false → is_within f t ≡ false
 is_past f t h = grind (arith, nat_tests)
 
-tail_around : (t : Token) (ts : List Token) (f : Free) (s n : ℕ) → AreAround (t ∷ ts) f (suc s) n → AreAround ts f s n
-tail_around t ts f s n a = record {
+tail_around : (t : Token) (ts us : List Token) (f : Free) (s n : ℕ) → AreAround (t ∷ ts) us f (suc s) n → AreAround ts us f s n
+tail_around t ts us f s n a = record {
   before = λ i d from to. a.before (suc i) d (omega arith) (omega arith);
   from = λ i d from to. a.from (suc i) d (omega arith) (omega arith);
   inside = a.inside;
   past = a.past;
 }
 
-tail_inside : (t : Token) (ts : List Token) (f : Free) (n : ℕ) → AreAround (t ∷ ts) f zero (suc n) → AreAround ts f zero n
+tail_inside : (t : Token) (ts : List Token) (f : Free) (n : ℕ) → AreAround (t ∷ ts) (t ∷ ts) f zero (suc n) → AreAround ts ts f zero n
 tail_inside t ts f n a = record {
   before = λ i d from to. absurd (omega arith);
   from = λ i d from to. a.from (suc i) d (omega arith) (omega arith);
@@ -101,7 +100,7 @@ tail_inside t ts f n a = record {
   past = λ i d from to. a.past (suc i) d (omega arith) (omega arith);
 }
 
-tail_past : (t : Token) (ts : List Token) (f : Free) → AreAround (t ∷ ts) f zero zero → AreAround ts f zero zero
+tail_past : (t : Token) (ts : List Token) (f : Free) → AreAround (t ∷ ts) (t ∷ ts) f zero zero → AreAround ts ts f zero zero
 tail_past t ts f a = record {
   before = λ i d from to. absurd (omega arith);
   from = λ i d from to. a.from (suc i) d (omega arith) (omega arith);
@@ -109,21 +108,27 @@ tail_past t ts f a = record {
   past = λ i d from to. a.past (suc i) d (omega arith) (omega arith);
 }
 
-pub part_of_free : (ts : List Token) (f : Free) (s n : ℕ) → s ≤ length ts → n ≤ length (drop s ts) → AreAround ts f s n → take n (drop s ts) ≡ filter (is_within f) ts
-part_of_free [] f s n low high a = grind (arith, common_steps)
-part_of_free (t ∷ ts) f zero zero low high a =
-    rw (is_past f t (a.past 0 t (omega arith) (omega arith))) (part_of_free ts f zero zero (omega arith) (omega arith) (tail_past t ts f a))
-part_of_free (t ∷ ts) f zero (suc n) low high a =
+part_within : (ts : List Token) (f : Free) (s n : ℕ) → s ≤ length ts → n ≤ length (drop s ts) → AreAround ts (drop s ts) f s n → take n (drop s ts) ≡ filter (is_within f) ts
+part_within [] f s n low high a = grind (arith, common_steps)
+part_within (t ∷ ts) f zero zero low high a =
+    rw (is_past f t (a.past 0 t (omega arith) (omega arith))) (part_within ts f zero zero (omega arith) (omega arith) (tail_past t ts f a))
+part_within (t ∷ ts) f zero (suc n) low high a =
     rw (is_inside f t (a.from 0 t (omega arith) (omega arith)) (a.inside 0 t (omega arith) (omega arith)))
-    (ap (λ (us : List Token). t ∷ us) (part_of_free ts f zero n (omega arith) (omega arith) (tail_inside t ts f n a)))
-part_of_free (t ∷ ts) f (suc s) n low high a =
-    rw (is_before f t (a.before 0 t (omega arith) (omega arith))) (part_of_free ts f s n (omega arith) high (tail_around t ts f s n a))
+    (ap (λ (us : List Token). t ∷ us) (part_within ts f zero n (omega arith) (omega arith) (tail_inside t ts f n a)))
+part_within (t ∷ ts) f (suc s) n low high a =
+    rw (is_before f t (a.before 0 t (omega arith) (omega arith))) (part_within ts f s n (omega arith) high (tail_around t ts (drop s ts) f s n a))
+
+pub part_of_free : (ts : List Token) (f : Free) (s n : ℕ) (us : List Token) → s ≤ length ts → n ≤ length us → us ≡ drop s ts → AreAround ts us f s n
+    → take n us ≡ filter (is_within f) ts
+part_of_free ts f s n us low high e a =
+    let within : n ≤ length (drop s ts) = subst (λ (vs : List Token). n ≤ length vs) e high in
+    ap (take n) e ∙ part_within ts f s n low within (subst (λ (vs : List Token). AreAround ts vs f s n) e a)
 
 -- the answers of the two searches
-pub around_from : (ts : List Token) (f : Free) (s n : ℕ)
+pub around_from : (ts : List Token) (f : Free) (s n : ℕ) (us : List Token)
     → IsPartitionPoint (λ (t : Token). nat_lt t.start f.start ≡ true) (λ (t : Token). nat_lt t.start f.start ≡ false) ts s
-    → IsPartitionPoint (λ (t : Token). nat_lt t.end f.end ≡ true) (λ (t : Token). nat_lt t.end f.end ≡ false) (drop s ts) n → AreAround ts f s n
-around_from ts f s n first last = record { before = first.0; from = first.1; inside = last.0; past = last.1 }
+    → IsPartitionPoint (λ (t : Token). nat_lt t.end f.end ≡ true) (λ (t : Token). nat_lt t.end f.end ≡ false) us n → AreAround ts us f s n
+around_from ts f s n us first last = record { before = first.0; from = first.1; inside = last.0; past = last.1 }
 
 in_order : (at : ℕ) (ts : List Token) (l : ℕ) → Ascend at ts l → stand_in_order at ts ≡ true
 in_order at [] l h = refl

@@ -3,5 +3,6 @@ pub mod EditTokens
 pub mod Emptied
 pub mod FormLemmas
 pub mod FormTokens
+pub mod OwnLemmas
 pub mod TextLemmas
 pub mod VarLemmas
