@@ -9,5 +9,6 @@ mod kinds;
 mod own;
 mod reading;
 mod refusal;
+mod repairs;
 
 pub use refusal::{RepairRefusal, SourceRefusal};
