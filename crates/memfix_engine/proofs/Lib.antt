@@ -7,6 +7,7 @@ pub mod EditAlike
 pub mod EditLemmas
 pub mod EditSteps
 pub mod EditText
+pub mod EditTokens
 pub mod Emptied
 pub mod FormLemmas
 pub mod FormTokens
@@ -15,6 +16,7 @@ pub mod NameLemmas
 mod NotesExamples
 pub mod NotesLemmas
 pub mod OwnFrees
+pub mod OwnLemmas
 pub mod PlaceLemmas
 pub mod ProgressEnds
 pub mod ProgressLemmas

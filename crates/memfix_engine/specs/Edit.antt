@@ -1,6 +1,6 @@
 -- The text in which a program's gaps are filled by a choice: old frees become blanks, and new ones are
 -- written. Frees are of variables, in gaps of the outermost blocks.
-use Rattle.std.specs.Prelude.{ℕ, ◌-◌, Bool, true, false, ◌&&◌, ◌==◌, nat_le, nat_lt, if◌then◌else◌, List, [], ◌∷◌, ◌++◌, length, take, drop, map, filter, replicate, slice_get, unwrap_or, option_map, Option, Some, None}
+use Rattle.std.specs.Prelude.{ℕ, ◌-◌, Bool, true, false, ◌&&◌, ◌==◌, nat_le, nat_lt, if◌then◌else◌, List, [], ◌∷◌, ◌++◌, length, take, drop, map, filter, replicate, slice_get, unwrap_or, option_map, Option, Some, None, IsTrue}
 use Rattle.std.specs.List.{flat_map}
 use Rattle.c_lexer.specs.declared.token.Token.{Token}
 use Rattle.c_tree.specs.declared.choice.Put.{Put}
@@ -76,3 +76,11 @@ changed at (c ∷ more) bytes = take (c.start - at) bytes ++ c.text ++ changed c
 -- the text of these bytes and tokens, which reads as the program, edited by the choice
 abbrev pub edited : List ℕ → List Token → Program → Choice → List ℕ
 edited bytes ts p choice = changed 0 (changes ts p choice.puts) bytes
+
+-- each token begins where the one before it ends or behind that, from an offset on
+abbrev pub stand_in_order : ℕ → List Token → Bool
+stand_in_order at [] = true
+stand_in_order at (t ∷ ts) = nat_le at t.start && nat_le t.start t.end && stand_in_order t.end ts
+
+abbrev pub AreInOrder : List Token → Type 0
+AreInOrder ts = IsTrue (stand_in_order 0 ts)

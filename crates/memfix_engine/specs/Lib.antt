@@ -1,3 +1,4 @@
+pub mod Access
 pub mod Command
 pub mod Edit
 pub mod Form

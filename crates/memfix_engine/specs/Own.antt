@@ -88,3 +88,7 @@ fits p = is_freed_once p && is_unused_behind (pieces_of p) && list_all (λ g. is
 -- the program's own frees, as puts
 abbrev pub own_puts : Program → List Put
 own_puts p = flat_map (λ g. map (put_of g.number) (freed g)) (gaps_of p)
+
+-- the gaps are numbered in the order of the text
+abbrev pub are_numbered : Program → Bool
+are_numbered p = is_ascending (map (λ g. g.number) (gaps_of p))

@@ -8,15 +8,18 @@ mod form;
 mod items;
 mod kinds;
 mod names;
-mod prefix;
 mod notes;
 mod outcome;
+mod own;
+mod prefix;
 mod reading;
 mod refusal;
+mod repairs;
 mod source;
 
 pub use command::memfix;
 pub use refusal::{RepairRefusal, SourceRefusal};
+pub use repairs::{SOURCE_LIMIT, repair};
 pub use source::read_source;
 
 #[cfg(test)]
