@@ -1,7 +1,8 @@
 -- The repaired text reads as the filled program.
-use Rattle.std.proofs.Common.{◌≡◌, ◌⊎◌, inl, inr, ℕ, suc, Bool, true, false, List, [], ◌∷◌, ◌++◌, length, map, All, Option, Some, None, option_map, refl, sym, ◌∙◌, ap, subst}
+use Rattle.std.proofs.Common.{◌≡◌, ◌⊎◌, inl, inr, ℕ, zero, suc, ◌+◌, Bool, true, false, List, [], ◌∷◌, ◌++◌, length, map, All, Option, Some, None, option_map, refl, sym, ◌∙◌, ap, subst, arith}
 use Rattle.std.specs.Prelude.{slice_get, if◌then◌else◌}
-use Rattle.std.specs.List.{AllByRecursion}
+use Rattle.std.specs.List.{AllByRecursion, range_with_len}
+use Rattle.std.proofs.lemmas.Bool.{lt-ltb}
 use Rattle.std.proofs.lemmas.List.Elements.{All-from_recursion}
 use Rattle.c_lexer.specs.declared.token.Token.{Token}
 use Rattle.c_lexer.specs.Scan.{HasTokens}
@@ -20,12 +21,14 @@ use Rattle.memfix_engine.specs.FreeText.{IsName}
 use Rattle.memfix_engine.specs.Form.{IsForm, is_main}
 use Rattle.memfix_engine.specs.Reading.{read_from, nothing_read, whole_of}
 use Rattle.memfix_engine.specs.Reads.{IsFirst, Reads}
-use Rattle.memfix_engine.specs.Edit.{changes, changed, edited}
-use Rattle.memfix_engine.specs.Own.{fits, own_puts}
+use Rattle.memfix_engine.specs.Edit.{changes, changed, edited, AreInOrder}
+use Rattle.memfix_engine.specs.Own.{fits, own_puts, is_ascending, are_numbered}
 use Rattle.memfix_engine.specs.Repair.{return_puts, choice_of, Repairs}
 use Rattle.memfix_engine.specs.Straight.{IsSound}
 use Rattle.memfix_engine.proofs.Emptied.{cleared, releases, insertion, marked_blanks}
-use Rattle.memfix_engine.proofs.TextLemmas.{AllNamed, tokens_named}
+use Rattle.memfix_engine.proofs.TextLemmas.{AllNamed, tokens_named, tokens_ascend}
+use Rattle.memfix_engine.proofs.EditTokens.{Ascend_in_order}
+use Rattle.memfix_engine.proofs.GapLemmas.{gaps_numbered}
 use Rattle.memfix_engine.proofs.SoundLemmas.{Steps-named, read_sound}
 use Rattle.memfix_engine.proofs.StraightRuns.{safe_clear, safe_own}
 use Rattle.memfix_engine.proofs.EditAlike.{alike_return, alike_own, unchanged_own}
@@ -165,3 +168,19 @@ repaired b w ts p scanned first e =
       same = g.same;
       kept = λ h. e ∙ kept h;
     }
+
+-- what the edit and the choice ask for
+
+ascending_range : (a n : ℕ) → is_ascending (range_with_len a n) ≡ true
+ascending_range a zero = refl
+ascending_range a (suc zero) = refl
+ascending_range a (suc (suc n)) = rw lt-ltb a (a + 1) (omega arith) (ascending_range (a + 1) (suc n))
+
+pub numbered_source : (b : List ℕ) (ts : List Token) (p : Program) → HasTokens b ts → IsFirst ts p → are_numbered p ≡ true
+numbered_source b ts p scanned first =
+    let found = program_reading first.draft p (read_from nothing_read first.draft.steps) first.program in
+    let sound = sound_of b ts first.draft found.reading scanned first.form found.found in
+    ap are_numbered found.is ∙ ap is_ascending (gaps_numbered first.draft found.reading sound) ∙ ascending_range 0 (length found.reading.pieces + 2)
+
+pub ordered_source : (b : List ℕ) (ts : List Token) → HasTokens b ts → AreInOrder ts
+ordered_source b ts scanned = Ascend_in_order ts (length b) (tokens_ascend b ts scanned)
