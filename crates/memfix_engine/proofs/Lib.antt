@@ -1,3 +1,4 @@
+pub mod EditExamples
 pub mod EditLemmas
 pub mod EditTokens
 pub mod Emptied
