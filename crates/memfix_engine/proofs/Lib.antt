@@ -4,6 +4,7 @@ pub mod CommandLemmas
 pub mod Counts
 pub mod DeclaredNames
 pub mod EditAlike
+pub mod EditExamples
 pub mod EditLemmas
 pub mod EditSteps
 pub mod EditText

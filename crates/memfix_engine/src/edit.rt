@@ -1,6 +1,6 @@
 //! The text in which a program's gaps are filled by a choice: old frees become blanks, and new ones are
 //! written.
-ghost use Rattle.std.specs.Prelude.{◌≡◌, ◌++◌, IfOk, OnOk, IsTrue, map, filter};
+ghost use Rattle.std.specs.Prelude.{◌≡◌, IfOk, IsTrue, map, filter};
 ghost use Rattle.std.specs.List.{flat_map};
 ghost use Rattle.c_tree.specs.Fill.{IsAscending, ascends};
 ghost use Rattle.memfix_engine.specs.FreeText.{free_text};

@@ -1,5 +1,5 @@
 -- The two binary searches give the bounds of the free's tokens.
-use Rattle.std.proofs.Common.{◌≤◌, List, length, nat_lt, take, drop, rules, of_calls, ap, subst, sym, ◌∙◌}
+use Rattle.std.proofs.Common.{List, nat_lt, rules, of_calls, subst, sym, ◌∙◌}
 use Rattle.std.specs.List.Sorted.{IsNonDecreasingBy}
 use Rattle.std.proofs.lemmas.Fn.{always_returns_same}
 use Rattle.std.proofs.lemmas.List.Sorted.{IsPartitionedBy-ltb, IsNonDecreasingBy-drop}

@@ -1,4 +1,5 @@
-use Rattle.std.proofs.Common.{◌≡◌, rules, IfOk, subst}
+-- The frees of all gaps.
+use Rattle.std.proofs.Common.{rules}
 use Rattle.memfix_engine.specs.Own.{gaps_of}
 use Rattle.memfix_engine.proofs.OwnLemmas.{ascend_by_frees}
 use Rattle.memfix_engine.proofs.own.fits.Goals as goal

@@ -1,4 +1,5 @@
-use Rattle.std.proofs.Common.{◌≡◌, rules, IfOk, subst}
+-- The accesses of all pieces.
+use Rattle.std.proofs.Common.{rules}
 use Rattle.memfix_engine.specs.Own.{pieces_of}
 use Rattle.memfix_engine.proofs.OwnLemmas.{last_accesses}
 use Rattle.memfix_engine.proofs.own.is_unused_behind.Goals as goal
