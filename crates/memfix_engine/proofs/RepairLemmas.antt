@@ -1,6 +1,6 @@
 -- The repaired text reads as the filled program.
 use Rattle.std.proofs.Common.{◌≡◌, ◌⊎◌, inl, inr, ℕ, zero, suc, ◌+◌, Bool, true, false, List, [], ◌∷◌, ◌++◌, length, map, All, Option, Some, None, option_map, refl, sym, ◌∙◌, ap, subst, arith}
-use Rattle.std.specs.Prelude.{slice_get, if◌then◌else◌}
+use Rattle.std.specs.Prelude.{slice_get, nat_lt, if◌then◌else◌}
 use Rattle.std.specs.List.{AllByRecursion, range_with_len}
 use Rattle.std.proofs.lemmas.Bool.{lt-ltb}
 use Rattle.std.proofs.lemmas.List.Elements.{All-from_recursion}
@@ -21,6 +21,8 @@ use Rattle.memfix_engine.specs.FreeText.{IsName}
 use Rattle.memfix_engine.specs.Form.{IsForm, is_main}
 use Rattle.memfix_engine.specs.Reading.{read_from, nothing_read, whole_of}
 use Rattle.memfix_engine.specs.Reads.{IsFirst, Reads}
+use Rattle.memfix_engine.specs.declared.source.Source.{Source}
+use Rattle.memfix_engine.specs.Source.{IsSource}
 use Rattle.memfix_engine.specs.Edit.{changes, changed, edited, AreInOrder}
 use Rattle.memfix_engine.specs.Own.{fits, own_puts, is_ascending, are_numbered}
 use Rattle.memfix_engine.specs.Repair.{return_puts, choice_of, Repairs}
@@ -147,7 +149,7 @@ kept_text b ts d r sound fitting =
     ∙ own_text b ts d r sound
 
 -- the edit of a text of the first form repairs it
-pub repaired : (b w : List ℕ) (ts : List Token) (p : Program) → HasTokens b ts → IsFirst ts p → w ≡ edited b ts p (choice_of p) → Repairs b w
+repaired : (b w : List ℕ) (ts : List Token) (p : Program) → HasTokens b ts → IsFirst ts p → w ≡ edited b ts p (choice_of p) → Repairs b w
 repaired b w ts p scanned first e =
     let d = first.draft in
     let found = program_reading d p (read_from nothing_read d.steps) first.program in
@@ -174,13 +176,23 @@ repaired b w ts p scanned first e =
 ascending_range : (a n : ℕ) → is_ascending (range_with_len a n) ≡ true
 ascending_range a zero = refl
 ascending_range a (suc zero) = refl
-ascending_range a (suc (suc n)) = rw lt-ltb a (a + 1) (omega arith) (ascending_range (a + 1) (suc n))
+ascending_range a (suc (suc n)) =
+    let next : nat_lt a (a + 1) ≡ true = lt-ltb a (a + 1) (omega arith) in
+    rw next (ascending_range (a + 1) (suc n))
 
-pub numbered_source : (b : List ℕ) (ts : List Token) (p : Program) → HasTokens b ts → IsFirst ts p → are_numbered p ≡ true
-numbered_source b ts p scanned first =
-    let found = program_reading first.draft p (read_from nothing_read first.draft.steps) first.program in
-    let sound = sound_of b ts first.draft found.reading scanned first.form found.found in
+scanned_source : (b : List ℕ) (s : Source) → IsSource b s → HasTokens b s.tokens.list
+scanned_source b s h = record { last_comment = s.tokens.last_comment; reads = h.are.reads }
+
+pub numbered_source : (b : List ℕ) (s : Source) → IsSource b s → are_numbered s.program ≡ true
+numbered_source b s h =
+    let first = h.first in
+    let found = program_reading first.draft s.program (read_from nothing_read first.draft.steps) first.program in
+    let sound = sound_of b s.tokens.list first.draft found.reading (scanned_source b s h) first.form found.found in
     ap are_numbered found.is ∙ ap is_ascending (gaps_numbered first.draft found.reading sound) ∙ ascending_range 0 (length found.reading.pieces + 2)
 
-pub ordered_source : (b : List ℕ) (ts : List Token) → HasTokens b ts → AreInOrder ts
-ordered_source b ts scanned = Ascend_in_order ts (length b) (tokens_ascend b ts scanned)
+pub ordered_source : (b : List ℕ) (s : Source) → IsSource b s → AreInOrder s.tokens.list
+ordered_source b s h = Ascend_in_order s.tokens.list (length b) (tokens_ascend b s.tokens.list (scanned_source b s h))
+
+-- the edit of a source repairs it
+pub repaired_source : (b w : List ℕ) (s : Source) → IsSource b s → w ≡ edited b s.tokens.list s.program (choice_of s.program) → Repairs b w
+repaired_source b w s h e = repaired b w s.tokens.list s.program (scanned_source b s h) h.first e

@@ -14,5 +14,5 @@ returns-in_ok-at-in-None-clause-refused c =
     let second : c.as_slice-in-None.result.now ≡ c.in_ok-tokens.tokens.list = c.as_slice-in-None.ensures in
     let none : (p : Program) → IsFirst c.as_slice.result.now p → ⊥ = rw c.in-None.is at c.in_ok-program.ensures.none in
     let here : (p : Program) → IsFirst c.as_slice-in-None.result.now p → ⊥ = subst (λ ts. (p : Program) → IsFirst ts p → ⊥) (first ∙ sym second) none in
-    let place : IsPlace c.in_ok-tokens.tokens.size c.as_slice-in-None.result.now c.in_ok-at-in-None.at = c.in_ok-at-in-None.ensures here in
+    let place : IsPlace c.in_ok-tokens.tokens.size c.as_slice-in-None.result.now c.in_ok-at-in-None.at = c.in_ok-at-in-None.ensures.place here in
     not_built_at c.args.bytes.now c.in_ok-tokens.tokens c.in_ok-at-in-None.at tokens (subst (λ ts. IsPlace c.in_ok-tokens.tokens.size ts c.in_ok-at-in-None.at) second place)

@@ -1,0 +1,23 @@
+-- What is written is the edit of the source that is read.
+use Rattle.std.proofs.Common.{◌≡◌, rules, sym, subst}
+use Rattle.memfix_engine.specs.Edit.{edited, AreInOrder}
+use Rattle.memfix_engine.specs.Repair.{choice_of}
+use Rattle.memfix_engine.specs.Source.{IsSource}
+use Rattle.memfix_engine.proofs.RepairLemmas.{numbered_source, ordered_source, repaired_source}
+use Rattle.memfix_engine.proofs.repairs.repair.Goals as goal
+
+pub choice_of-requires : goal.choice_of-requires
+choice_of-requires c =
+    let source : IsSource c.args.bytes.now c.in-Ok.source = search rules in
+    numbered_source c.args.bytes.now c.in-Ok.source source
+
+pub edit-requires-clause-in_order : goal.edit-requires-clause-in_order
+edit-requires-clause-in_order c =
+    let source : IsSource c.args.bytes.now c.in-Ok.source = search rules in
+    subst AreInOrder (sym c.as_slice.ensures) (ordered_source c.args.bytes.now c.in-Ok.source source)
+
+pub returns-clause-repairs : goal.returns-clause-repairs
+returns-clause-repairs c =
+    let source : IsSource c.args.bytes.now c.in-Ok.source = search rules in
+    let text : c.in_ok-text.field-0.items ≡ edited c.args.bytes.now c.in-Ok.source.tokens.list c.in-Ok.source.program (choice_of c.in-Ok.source.program) = search rules in
+    repaired_source c.args.bytes.now _ c.in-Ok.source source text
