@@ -1,6 +1,7 @@
 -- The names that steps declare, and when a program is read off the steps.
-use Rattle.std.proofs.Common.{◌≡◌, ℕ, suc, Bool, true, false, ◌||◌, cond, nat_eq, List, [], ◌∷◌, ◌++◌, Option, Some, None, option_map, map, refl, sym, ◌∙◌, ap}
+use Rattle.std.proofs.Common.{◌≡◌, ℕ, Bool, true, false, nat_eq, List, [], ◌∷◌, ◌++◌, Option, Some, None, option_map, map, refl, sym, ◌∙◌, ap}
 use Rattle.std.specs.Prelude.{if◌then◌else◌, option_and_then}
+use Rattle.std.specs.Option.{is_some}
 use Rattle.std.specs.Cmp.Lexicographic.{pointwise}
 use Rattle.std.proofs.lemmas.List.{map-append}
 use Rattle.c_tree.specs.declared.program.VarDef.{VarDef}
@@ -11,7 +12,7 @@ use Rattle.memfix_engine.specs.declared.draft.Step.{Step}
 use Rattle.memfix_engine.specs.declared.reading.Reading.{Reading}
 use Rattle.memfix_engine.specs.Reading.{var_of, with_item, made, stored, shown, released, stepped_by, stepped, nothing_read, read_from}
 use Rattle.memfix_engine.specs.Progress.{is_declared}
-use Rattle.memfix_engine.proofs.VarLemmas.{position-cons}
+use Rattle.memfix_engine.proofs.NameLemmas.{list_any-position, number_in-names_of}
 
 abbrev pub names_of : Reading → List (List ℕ)
 names_of r = map (λ v. v.name) r.vars
@@ -33,27 +34,16 @@ abbrev pub names_from : List (List ℕ) → List Step → Option (List (List ℕ
 names_from names [] = Some names
 names_from names (s ∷ ss) = option_and_then (λ q. names_from q ss) (names_step names s.deed)
 
-abbrev is_found : Option ℕ → Bool
-is_found None = false
-is_found (Some k) = true
+-- a name is declared where it has a variable
+declared_found : (vars : List VarDef) (name : List ℕ) → is_declared (map (λ v. v.name) vars) name ≡ is_some (var_of vars name)
+declared_found vars name = list_any-position (λ n. pointwise nat_eq n name) (map (λ v. v.name) vars) ∙ ap is_some (number_in-names_of vars name)
 
-found_head : (b d : Bool) (o : Option ℕ) → d ≡ is_found o → (b || d) ≡ is_found (cond b (Some 0) (option_map suc o))
-found_head true d o h = refl
-found_head false d None h = h
-found_head false d (Some k) h = h
-
-declared_found : (vars : List VarDef) (name : List ℕ) → is_declared (map (λ v. v.name) vars) name ≡ is_found (var_of vars name)
-declared_found [] name = refl
-declared_found (v ∷ vars) name =
-    found_head (pointwise nat_eq v.name name) (is_declared (map (λ v. v.name) vars) name) (var_of vars name) (declared_found vars name)
-    ∙ ap is_found (sym (position-cons (λ v. pointwise nat_eq v.name name) v vars))
-
-made_names : (r : Reading) (s : Step) (t : Make) (o : Option ℕ) (b : Bool) → b ≡ is_found o
+made_names : (r : Reading) (s : Step) (t : Make) (o : Option ℕ) (b : Bool) → b ≡ is_some o
     → option_map names_of (made r s t o) ≡ (if b then None else Some (names_of r ++ t.name ∷ []))
 made_names r s t None b h = rw h (ap Some (map-append (λ v. v.name) r.vars _))
 made_names r s t (Some x) b h = rw h refl
 
-used_names : (r : Reading) (f : ℕ → Reading) (o : Option ℕ) (b : Bool) → b ≡ is_found o → ((x : ℕ) → names_of (f x) ≡ names_of r)
+used_names : (r : Reading) (f : ℕ → Reading) (o : Option ℕ) (b : Bool) → b ≡ is_some o → ((x : ℕ) → names_of (f x) ≡ names_of r)
     → option_map names_of (option_map f o) ≡ (if b then Some (names_of r) else None)
 used_names r f None b h same = rw h refl
 used_names r f (Some x) b h same = rw h (ap Some (same x))

@@ -1,7 +1,7 @@
 -- Tokens that fill the parts of the first form.
 use Rattle.std.proofs.Common.{◌≡◌, ◌⊎◌, inl, inr, ℕ, Bool, true, false, not, ◌==◌, ◌&&◌, List, [], ◌∷◌, ◌++◌, length, take, drop, Option, Some, None, refl, sym, ◌∙◌, ap, subst}
 use Rattle.std.specs.Prelude.{if◌then◌else◌}
-use Rattle.std.proofs.lemmas.Bool.{eqb-true, eq-eqb}
+use Rattle.std.proofs.lemmas.Bool.{not-true, eqb-true, eq-eqb}
 use Rattle.c_lexer.specs.declared.token.Token.{Token}
 use Rattle.c_lexer.specs.declared.token.Kind.{Kind}
 use Rattle.c_lexer.specs.declared.token.Kind.TheVariants as kind
@@ -12,8 +12,10 @@ use Rattle.memfix_engine.specs.declared.draft.Pattern.{Pattern}
 use Rattle.memfix_engine.specs.declared.draft.Pattern.TheVariants as pattern
 use Rattle.memfix_engine.specs.declared.prefix.Part.TheVariants as part
 use Rattle.memfix_engine.specs.Form.{fits, matches, wants, word_of, word_at, deed_of, candidate, is_main}
+use Rattle.memfix_engine.specs.Names.{number_in}
 use Rattle.memfix_engine.specs.Progress.{is_declared, declares, admits, names_behind}
 use Rattle.memfix_engine.proofs.DeclaredNames.{named, names_step}
+use Rattle.memfix_engine.proofs.NameLemmas.{undeclared_number}
 
 pub and_left : (a b : Bool) → (a && b) ≡ true → a ≡ true
 and_left true b h = refl
@@ -44,6 +46,10 @@ admits_fits new names (Punct n) k h = h
 admits_fits new names Main k h = h
 admits_fits new names Number k h = h
 admits_fits new names Format k h = h
+
+-- a new name that is admitted has no number yet
+pub admits_unnumbered : (names : List (List ℕ)) (word : List ℕ) → admits true names Name (kind.Name word) ≡ true → number_in names word ≡ None
+admits_unnumbered names word h = undeclared_number names word (not-true (is_declared names word) (and_right _ _ h))
 
 pub fill_matches : (new : Bool) (names last : List (List ℕ)) (ws : List Want) (ts : List Token) → fill new names ws ts ≡ Some last → matches ws ts ≡ true
 fill_matches new names last [] [] h = refl

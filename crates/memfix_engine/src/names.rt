@@ -1,5 +1,5 @@
 //! Names by number, looked up by a hash.
-ghost use Rattle.std.specs.Prelude.{◌≡◌, [], ◌∷◌, ◌++◌, None, length, OnOk, OnErr};
+ghost use Rattle.std.specs.Prelude.{◌≡◌, [], ◌∷◌, ◌++◌, None, IsTrue, ◌↔◌, OnOk, OnErr};
 ghost use Rattle.memfix_engine.specs.Names.{number_in};
 
 use indexmap::IndexSet;
@@ -29,10 +29,10 @@ impl Names {
         }
     }
 
-    pub(crate) fn len(&self) -> usize
-        ensures { result ≡ length self.now }
+    pub(crate) fn is_empty(&self) -> bool
+        ensures { IsTrue result ↔ (self.now ≡ []) }
     {
-        self.words.len()
+        self.words.is_empty()
     }
 
     /// The number of a name.

@@ -1,5 +1,5 @@
 //! The place at which tokens stop to be the beginning of the first form.
-ghost use Rattle.std.specs.Prelude.{◌≡◌, ◌<◌, ◌≤◌, length, slice_get, Some, None, All, IfOk, IfSome};
+ghost use Rattle.std.specs.Prelude.{◌≡◌, ◌<◌, ◌≤◌, true, length, slice_get, Some, None, All, IfOk, IfSome};
 ghost use Rattle.c_tree.specs.declared.program.Program.{Program};
 ghost use Rattle.memfix_engine.specs.Reads.{IsFirst};
 ghost use Rattle.memfix_engine.specs.Prefix.{IsPlace};
@@ -8,8 +8,8 @@ ghost use Rattle.memfix_engine.specs.Progress.{is_declared, wanted, declares, na
 use crate::draft::{Pattern, Want};
 use crate::form::{HEAD, TAIL, candidate, fits, wants};
 use crate::kinds::KEY_RETURN;
+use crate::names::Names;
 use c_lexer::{Kind, Token};
-use mf_list::Seq;
 use std::alloc::{AllocError, Global};
 
 /// The parts of a text of the first form.
@@ -22,17 +22,17 @@ pub(crate) enum Part {
 
 /// How far tokens have come: the names that they declare, the part of the form that the last of them
 /// belongs to, and how many tokens of this part they have.
-#[derive(Debug, Drop)]
+#[derive(Drop)]
 pub(crate) struct Progress {
-    pub(crate) names: Seq<Seq<u8>>,
+    pub(crate) names: Names,
     pub(crate) part: Part,
     pub(crate) at: usize,
 }
 
-fn is_declared(names: &[Seq<u8>], name: &[u8]) -> bool
+fn is_declared(names: &Names, name: &[u8]) -> bool
     ensures { result ≡ is_declared names.now name.now }
 {
-    names.iter().any(|known| known.as_slice() == name)
+    names.find(name).is_some()
 }
 
 fn wanted(part: Part) -> &'static [Want]
@@ -58,7 +58,7 @@ fn declares(part: Part) -> bool
     part == Part::Step(Pattern::Make)
 }
 
-fn name_fits(new: bool, names: &[Seq<u8>], kind: &Kind) -> bool
+fn name_fits(new: bool, names: &Names, kind: &Kind) -> bool
     ensures { result ≡ name_fits new names.now kind.now }
 {
     match kind {
@@ -67,7 +67,7 @@ fn name_fits(new: bool, names: &[Seq<u8>], kind: &Kind) -> bool
     }
 }
 
-fn admits(new: bool, names: &[Seq<u8>], want: Want, kind: &Kind) -> bool
+fn admits(new: bool, names: &Names, want: Want, kind: &Kind) -> bool
     ensures { result ≡ admits new names.now want kind.now }
 {
     match want {
@@ -79,21 +79,22 @@ fn admits(new: bool, names: &[Seq<u8>], want: Want, kind: &Kind) -> bool
 fn names_behind(
     alloc: Global,
     new: bool,
-    mut names: Seq<Seq<u8>>,
+    mut names: Names,
     want: Want,
     kind: &Kind,
-) -> Result<Seq<Seq<u8>>, AllocError>
+) -> Result<Names, AllocError>
+    requires { admits new names want kind.now ≡ true }
     ensures { IfOk result (λ ns. ns ≡ names_behind want new kind.now names) }
 {
     if new {
         if let (Want::Name, Kind::Name(word)) = (want, kind) {
-            names.push(Seq::from_slice(alloc, word.as_slice())?)?;
+            names.push(alloc, word.as_slice())?;
         }
     }
     Ok(names)
 }
 
-fn may_begin(pattern: Pattern, names: &[Seq<u8>]) -> bool
+fn may_begin(pattern: Pattern, names: &Names) -> bool
     ensures { result ≡ may_begin pattern names.now }
 {
     match pattern {
@@ -102,11 +103,11 @@ fn may_begin(pattern: Pattern, names: &[Seq<u8>]) -> bool
     }
 }
 
-fn begun(names: Seq<Seq<u8>>, kind: &Kind) -> Option<Progress>
+fn begun(names: Names, kind: &Kind) -> Option<Progress>
     ensures { result ≡ begun names kind.now }
 {
     match candidate(kind) {
-        Some(pattern) if may_begin(pattern, names.as_slice()) => Some(Progress {
+        Some(pattern) if may_begin(pattern, &names) => Some(Progress {
             names,
             part: Part::Step(pattern),
             at: 1,
@@ -120,7 +121,7 @@ fn begun(names: Seq<Seq<u8>>, kind: &Kind) -> Option<Progress>
     }
 }
 
-fn begun_behind(part: Part, names: Seq<Seq<u8>>, kind: &Kind) -> Option<Progress>
+fn begun_behind(part: Part, names: Names, kind: &Kind) -> Option<Progress>
     ensures { result ≡ begun_behind part names kind.now }
 {
     match part {
@@ -137,7 +138,7 @@ impl Progress {
         ensures { result ≡ nothing_begun }
     {
         Progress {
-            names: Seq::new(alloc),
+            names: Names::new(alloc),
             part: Part::Head,
             at: 0,
         }
@@ -153,7 +154,7 @@ impl Progress {
         ensures { IfOk result (λ o. o ≡ admitted self want kind.now) }
     {
         let Progress { names, part, at } = self;
-        if !admits(declares(part), names.as_slice(), want, kind) {
+        if !admits(declares(part), &names, want, kind) {
             return Ok(None);
         }
         let names = names_behind(alloc, declares(part), names, want, kind)?;
