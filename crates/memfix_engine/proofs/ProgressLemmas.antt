@@ -17,7 +17,7 @@ use Rattle.memfix_engine.specs.declared.reading.Reading.{Reading}
 use Rattle.memfix_engine.specs.Form.{fits, matches, wants, head_pattern, tail_pattern, candidate, deed_of, step_of, draft_of, Spells, Steps, none, more}
 use Rattle.memfix_engine.specs.Reading.{nothing_read, read_from, whole_of}
 use Rattle.memfix_engine.specs.Reads.{IsFirst}
-use Rattle.memfix_engine.specs.Progress.{wanted, declares, admits, names_behind, may_begin, begun_by, begun, begun_behind, admitted, advanced, advance, nothing_begun}
+use Rattle.memfix_engine.specs.Progress.{wanted, declares, admits, names_behind, may_begin, begun_by, begun, begun_behind, advanced, advance, nothing_begun}
 use Rattle.memfix_engine.proofs.FormLemmas.{called_for, for_none, Spells-step_of}
 use Rattle.memfix_engine.proofs.DeclaredNames.{names_of, names_step, names_from, Read, read_named, named_read}
 use Rattle.memfix_engine.proofs.ProgressParts.{and_left, and_right, if_some, fill, fill_matches, plain_fill, step_fill, begun_matches}

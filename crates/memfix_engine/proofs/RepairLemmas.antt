@@ -23,11 +23,11 @@ use Rattle.memfix_engine.specs.Reading.{read_from, nothing_read, whole_of}
 use Rattle.memfix_engine.specs.Reads.{IsFirst, Reads}
 use Rattle.memfix_engine.specs.declared.source.Source.{Source}
 use Rattle.memfix_engine.specs.Source.{IsSource}
-use Rattle.memfix_engine.specs.Edit.{changes, changed, edited, AreInOrder}
+use Rattle.memfix_engine.specs.Edit.{changed, edited, AreInOrder}
 use Rattle.memfix_engine.specs.Own.{fits, own_puts, is_ascending, are_numbered}
 use Rattle.memfix_engine.specs.Repair.{return_puts, choice_of, Repairs}
 use Rattle.memfix_engine.specs.Straight.{IsSound}
-use Rattle.memfix_engine.proofs.Emptied.{cleared, releases, insertion, marked_blanks}
+use Rattle.memfix_engine.proofs.Emptied.{cleared, insertion, marked_blanks}
 use Rattle.memfix_engine.proofs.TextLemmas.{AllNamed, tokens_named, tokens_ascend}
 use Rattle.memfix_engine.proofs.EditTokens.{Ascend_in_order}
 use Rattle.memfix_engine.proofs.GapLemmas.{gaps_numbered}
@@ -138,7 +138,7 @@ return_filled b ts d r scanned form sound read =
 
 chosen : (b : List ℕ) (ts : List Token) (d : Draft) (r : Reading) → HasTokens b ts → IsForm ts d → IsSound r → read_from nothing_read d.steps ≡ Some r → (own : Bool) → fits (whole_of d r) ≡ own
     → let puts : List Put = if own then own_puts (whole_of d r) else return_puts (whole_of d r) in
-      ReadsFilled (edited b ts (whole_of d r) (record { puts = puts })) (whole_of d r) puts
+    ReadsFilled (edited b ts (whole_of d r) (record { puts = puts })) (whole_of d r) puts
 chosen b ts d r scanned form sound read true fitting =
     subst (λ w. ReadsFilled w (whole_of d r) (own_puts (whole_of d r))) (sym (own_text b ts d r sound)) (own_filled b ts d r scanned form sound read fitting)
 chosen b ts d r scanned form sound read false fitting = return_filled b ts d r scanned form sound read

@@ -1,6 +1,6 @@
 -- The text in which a program's gaps are filled by a choice: old frees become blanks, and new ones are
 -- written. Frees are of variables, in gaps of the outermost blocks.
-use Rattle.std.specs.Prelude.{ℕ, ◌-◌, Bool, true, false, ◌&&◌, ◌==◌, nat_le, nat_lt, if◌then◌else◌, List, [], ◌∷◌, ◌++◌, length, take, drop, map, filter, replicate, slice_get, unwrap_or, option_map, Option, Some, None, IsTrue}
+use Rattle.std.specs.Prelude.{ℕ, ◌-◌, Bool, true, false, ◌&&◌, ◌==◌, nat_le, nat_lt, if◌then◌else◌, List, [], ◌∷◌, ◌++◌, take, drop, map, filter, replicate, slice_get, unwrap_or, option_map, Option, None, IsTrue}
 use Rattle.std.specs.List.{flat_map}
 use Rattle.c_lexer.specs.declared.token.Token.{Token}
 use Rattle.c_tree.specs.declared.choice.Put.{Put}

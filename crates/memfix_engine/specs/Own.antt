@@ -1,8 +1,7 @@
 -- The frees that a straight program has itself, and whether they free each object once, after its last use.
-use Rattle.std.specs.Prelude.{ℕ, ◌-◌, Bool, true, false, not, ◌&&◌, ◌==◌, nat_lt, List, [], ◌∷◌, ◌++◌, length, map, count_by, None}
+use Rattle.std.specs.Prelude.{ℕ, ◌-◌, Bool, true, not, ◌&&◌, ◌==◌, nat_lt, List, [], ◌∷◌, ◌++◌, length, map, count_by, None}
 use Rattle.std.specs.List.{flat_map, list_all, range_with_len}
 use Rattle.c_tree.specs.declared.choice.Put.{Put}
-use Rattle.c_tree.specs.declared.choice.Choice.{Choice}
 use Rattle.c_tree.specs.declared.expr.Expr.{Expr, Expr-F, out-Expr}
 use Rattle.c_tree.specs.declared.expr.Expr.TheOpen.{Var, Deref}
 use Rattle.c_tree.specs.declared.program.Block.{Block, out-Block}
@@ -13,8 +12,6 @@ use Rattle.c_tree.specs.declared.program.Arm.{Arm}
 use Rattle.c_tree.specs.declared.program.Call.{Call}
 use Rattle.c_tree.specs.declared.program.Call.TheVariants.{Printf}
 use Rattle.c_tree.specs.declared.program.Gap.{Gap}
-use Rattle.c_tree.specs.declared.program.Free.{Free}
-use Rattle.c_tree.specs.declared.program.FunDef.{FunDef}
 use Rattle.c_tree.specs.declared.program.Program.{Program}
 use Rattle.c_meaning.specs.Frees.{is_in}
 

@@ -1,5 +1,5 @@
 -- When a text is refused.
-use Rattle.std.specs.Prelude.{◌≡◌, ◌<◌, ◌≤◌, ℕ, List, length, Err}
+use Rattle.std.specs.Prelude.{◌<◌, ◌≤◌, ℕ, List, length, Err}
 use Rattle.c_lexer.specs.declared.token.Tokens.{Tokens}
 use Rattle.c_lexer.specs.Outcome.{AreTokens, Answers}
 use Rattle.memfix_engine.specs.declared.refusal.SourceRefusal.{SourceRefusal}

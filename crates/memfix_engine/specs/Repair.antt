@@ -1,6 +1,6 @@
 -- The repair of a program of the first form: its own frees where they fit, and else one free for each
 -- variable, all before the return.
-use Rattle.std.specs.Prelude.{◌≡◌, ℕ, ◌-◌, Bool, true, List, map, length, if◌then◌else◌}
+use Rattle.std.specs.Prelude.{◌≡◌, ℕ, ◌-◌, true, List, map, length, if◌then◌else◌}
 use Rattle.std.specs.List.{range_with_len}
 use Rattle.c_tree.specs.declared.choice.Put.{Put}
 use Rattle.c_tree.specs.declared.choice.Choice.{Choice}

@@ -1,6 +1,6 @@
 -- The items of a straight program: each declares the next variable, or stores to or prints one that
 -- is declared, behind a gap with frees of declared variables.
-use Rattle.std.specs.Prelude.{◌≡◌, ℕ, ◌+◌, ◌<◌, Bool, false, List, [], ◌∷◌, length, slice_get, Some}
+use Rattle.std.specs.Prelude.{◌≡◌, ℕ, ◌+◌, ◌<◌, false, List, [], ◌∷◌, length, slice_get, Some}
 use Rattle.c_tree.specs.declared.expr.Expr.TheVariants.{Var}
 use Rattle.c_tree.specs.declared.program.Gap.{Gap}
 use Rattle.c_tree.specs.declared.program.Free.{Free}

@@ -19,5 +19,5 @@ edit-requires-clause-in_order c =
 pub returns-clause-repairs : goal.returns-clause-repairs
 returns-clause-repairs c =
     let source : IsSource c.args.bytes.now c.in-Ok.source = search rules in
-    let text : c.in_ok-text.field-0.items ≡ edited c.args.bytes.now c.in-Ok.source.tokens.list c.in-Ok.source.program (choice_of c.in-Ok.source.program) = search rules in
+    let text : c.in_ok-text.text.items ≡ edited c.args.bytes.now c.in-Ok.source.tokens.list c.in-Ok.source.program (choice_of c.in-Ok.source.program) = search rules in
     repaired_source c.args.bytes.now _ c.in-Ok.source source text
