@@ -246,6 +246,11 @@ fn a_copy_is_the_same(rt: HostRuntime) -> Result<(), Fail> {
     let program = sample(alloc, 7)?;
     let copy = program.duplicate(alloc)?;
     assert_eq!(rt; text(alloc, &program)?, text(alloc, &copy)?);
+    let puts = choice(alloc)?;
+    assert_eq!(rt;
+        puts.duplicate(alloc)?.puts.as_slice(),
+        puts.puts.as_slice()
+    );
     Ok(())
 }
 
