@@ -23,7 +23,7 @@ use Rattle.c_meaning.specs.declared.machine.Ending.{Ending}
 use Rattle.c_meaning.specs.declared.machine.Ending.TheVariants.{Running, Returned, Fault}
 use Rattle.c_meaning.specs.declared.machine.Machine.{Machine}
 use Rattle.c_meaning.specs.Eval.{Place, Slot, Cell, Flaw, ◌>>=◌, is_freed, place_of}
-use Rattle.c_meaning.specs.Machine.{start, start_value, altered, with_cell, stored, dead, faulted}
+use Rattle.c_meaning.specs.Machine.{start, start_value, altered, with_cell, stored, marked_freed, faulted}
 use Rattle.c_meaning.specs.Place.{Action, Unset, Store, Request, Print, Leave, Close, Spot, AtGap, AtAction, Nowhere}
 use Rattle.c_meaning.specs.Step.{freed, freed_result, freed_value, freed_once, freed_layer, offset_layer, while_running, all_freed, target_of, count_of, int_of, answered, born, granted, requested, fails_next, left, right_value, assigned, effect, here, onward, moved, outcome, at_spot, walked, counted, step, printed}
 use Rattle.c_meaning.specs.Safe.{run, AreBytes, Safe, Same, LooksLike, IsFault}
@@ -48,10 +48,10 @@ cells_altered k v o [] = refl
 cells_altered k v zero (b ∷ objects) = refl
 cells_altered k v (suc o) (b ∷ objects) = ap (λ (css : List (List Value)). b.cells ∷ css) (cells_altered k v o objects)
 
-cells_dead : (o : ℕ) (objects : List Object) → map (λ b. b.cells) objects ≡ map (λ b. b.cells) (altered dead o objects)
-cells_dead o [] = refl
-cells_dead zero (b ∷ objects) = refl
-cells_dead (suc o) (b ∷ objects) = ap (λ (css : List (List Value)). b.cells ∷ css) (cells_dead o objects)
+cells_freed : (o : ℕ) (objects : List Object) → map (λ b. b.cells) objects ≡ map (λ b. b.cells) (altered marked_freed o objects)
+cells_freed o [] = refl
+cells_freed zero (b ∷ objects) = refl
+cells_freed (suc o) (b ∷ objects) = ap (λ (css : List (List Value)). b.cells ∷ css) (cells_freed o objects)
 
 stored_differ : {m n : Machine} (place : Place) (v : Value) → DifferInMarks m n → DifferInMarks (stored place v m) (stored place v n)
 stored_differ (Slot x) v (marks h) = marks h
@@ -132,7 +132,7 @@ pub data Freed (m k : Machine) : Type 0 where
 
 once_freed : (word o : ℕ) (b : Bool) (m : Machine) → Freed m (freed_once word o b m)
 once_freed word o true m = failed DoubleFree word refl
-once_freed word o false m = done (marks (record { same = cells_dead o m.objects }))
+once_freed word o false m = done (marks (record { same = cells_freed o m.objects }))
 
 value_freed : (word at : ℕ) (v : Value) (m : Machine) → Freed m (freed_value word at v m)
 value_freed word at value.Undef m = failed _ at refl

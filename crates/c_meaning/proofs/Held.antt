@@ -9,7 +9,7 @@ use Rattle.c_meaning.specs.declared.machine.Value.TheVariants as value
 use Rattle.c_meaning.specs.declared.machine.Object.{Object}
 use Rattle.c_meaning.specs.Eval.{slot_of, Slot}
 use Rattle.c_meaning.specs.Frees.{is_in}
-use Rattle.c_meaning.specs.Machine.{altered, with_cell, dead}
+use Rattle.c_meaning.specs.Machine.{altered, with_cell, marked_freed}
 use Rattle.c_meaning.specs.Step.{granted}
 use Rattle.c_meaning.proofs.Evals.{cell_object}
 use Rattle.c_meaning.proofs.Flat.{running}
@@ -103,7 +103,7 @@ pub data Looks (k i : ℕ) (gone : List ℕ) (hs : List Holding) (later : List V
   empty : slot_of (slots_of k hs ++ later) x ≡ value.Null → objects_of i gone hs ≡ objects_of i (y ∷ gone) hs → Looks k i gone hs later x y
   full : (o : ℕ) (c : Option ℤ) → slot_of (slots_of k hs ++ later) x ≡ value.Ptr (k + o)
       → slice_get (objects_of i gone hs) o ≡ Some (cell_object (cell_value c) (is_in y gone))
-      → ((n : ℤ) → Rewritten k i gone hs o n) → altered dead o (objects_of i gone hs) ≡ objects_of i (y ∷ gone) hs → Looks k i gone hs later x y
+      → ((n : ℤ) → Rewritten k i gone hs o n) → altered marked_freed o (objects_of i gone hs) ≡ objects_of i (y ∷ gone) hs → Looks k i gone hs later x y
 
 past_null : (k i : ℕ) (gone : List ℕ) (hs : List Holding) (later : List Value) (x y : ℕ) → Looks k (i + 1) gone hs later x y → Looks k i gone (Nothing ∷ hs) later (suc x) y
 past_null k i gone hs later x y (empty e stay) = empty e stay
@@ -122,7 +122,7 @@ past_ptr k i gone hs later b x y h (full o c e g change goes) =
     full (suc o) c (e ∙ ap value.Ptr m) g (λ n.
     let r = change n in
     record { other = Owned b ∷ r.other; count = ap suc r.count; slots = ap (λ (xs : List Value). value.Ptr k ∷ xs) r.slots; objects = ap (λ (xs : List Object). cell_object (cell_value b) (is_in i gone) ∷ xs) r.objects })
-    (ap (λ (d : Bool). cell_object (cell_value b) d ∷ altered dead o (objects_of (i + 1) gone hs)) same
+    (ap (λ (d : Bool). cell_object (cell_value b) d ∷ altered marked_freed o (objects_of (i + 1) gone hs)) same
     ∙ ap (λ (xs : List Object). cell_object (cell_value b) (is_in i (y ∷ gone)) ∷ xs) goes)
 
 looks_first : (k i : ℕ) (gone : List ℕ) (c : Option ℤ) (hs : List Holding) (later : List Value) → Looks k i gone (Owned c ∷ hs) later 0 i

@@ -51,12 +51,12 @@ abbrev pub stored : Place → Value → Machine → Machine
 stored (Slot x) v m = record m { slots = slice_set m.slots x v }
 stored (Cell o k) v m = record m { objects = altered (with_cell k v) o m.objects }
 
-abbrev pub dead : Object → Object
-dead o = record o { freed = true }
+abbrev pub marked_freed : Object → Object
+marked_freed o = record o { freed = true }
 
 -- the object's lifetime ends (6.2.4, 7.20.3.2)
-abbrev pub buried : ℕ → Machine → Machine
-buried o m = record m { objects = altered dead o m.objects }
+abbrev pub deallocated : ℕ → Machine → Machine
+deallocated o m = record m { objects = altered marked_freed o m.objects }
 
 abbrev pub faulted : Flaw → Bool → Machine → Machine
 faulted e by_free m = record m { ending = Fault e.kind e.at by_free }

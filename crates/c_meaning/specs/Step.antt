@@ -20,7 +20,7 @@ use Rattle.c_meaning.specs.declared.machine.Ending.{Ending}
 use Rattle.c_meaning.specs.declared.machine.Ending.TheVariants.{Running, Returned, Fault}
 use Rattle.c_meaning.specs.declared.machine.Machine.{Machine}
 use Rattle.c_meaning.specs.Eval.{Place, Slot, Flaw, flaw, ◌>>=◌, slot_of, is_freed, eval, eval_all, place_of}
-use Rattle.c_meaning.specs.Machine.{stored, buried, faulted}
+use Rattle.c_meaning.specs.Machine.{stored, deallocated, faulted}
 use Rattle.c_meaning.specs.Place.{Action, Unset, Store, Request, Print, Leave, Close, Spot, AtGap, AtAction, Nowhere, spot_in_fun, after_in_fun}
 
 -- what `free` is given: the last value is looked at whatever its object's state
@@ -40,7 +40,7 @@ offset_layer (Binary o a b at) = at
 
 abbrev pub freed_once : ℕ → ℕ → Bool → Machine → Machine
 freed_once word o true m = faulted (record { kind = DoubleFree; at = word }) true m
-freed_once word o false m = buried o m
+freed_once word o false m = deallocated o m
 
 -- free of a value: nothing for a null pointer, which the constant 0 is too (7.20.3.2)
 abbrev pub freed_value : ℕ → ℕ → Value → Machine → Machine

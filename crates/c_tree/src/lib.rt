@@ -6,6 +6,7 @@ mod choice;
 mod copy;
 mod duplicate;
 mod expr;
+mod limits;
 mod program;
 
 pub use alike::same_skeleton;
@@ -13,6 +14,7 @@ pub use choice::{Choice, Put};
 pub use copy::{fill, puts_of, skeleton};
 pub use duplicate::Duplicate;
 pub use expr::{Expr, Op, Oper, Sign};
+pub use limits::{Limit, Refusal};
 pub use program::{
     Arm, Block, Call, Declr, FieldDef, ForHead, Free, FunDef, Gap, Home, Item, Piece, Program,
     Right, Simple, Size, Start, StructDef, Ty, VarDef,

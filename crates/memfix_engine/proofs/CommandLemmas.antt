@@ -10,7 +10,7 @@ use Rattle.memfix_engine.specs.declared.refusal.SourceRefusal.{SourceRefusal}
 use Rattle.memfix_engine.specs.Reads.{Reads}
 use Rattle.memfix_engine.specs.Refusal.{RefusesSource, source_limit}
 use Rattle.memfix_engine.specs.Outcome.{IsRepaired, IsSourceRefused, Due, usage, refused, limit, read_fault, memory, is_repair, is_done, status_of, ComesTo}
-use Rattle.memfix_engine.proofs.ReadsLemmas.{read_not_lexical, not_built_not_lexical, not_built_not_read, refused_not_read, refused_not_deep, deep_not_lexical}
+use Rattle.memfix_engine.proofs.ReadsLemmas.{read_not_lexical, tokens_not_lexical, read_is_first, refused_not_read, refused_not_deep, deep_not_lexical}
 use Rattle.memfix_engine.specs.Command.{Said, Cut, IsStatusOf, Written, Finishes}
 
 -- a write that answers 6 in place of another status was cut
@@ -101,7 +101,7 @@ status_is words bytes left' faults faults' status (Done text) comes is asked non
       reads = λ short program h. inl is;
       lexical = λ short refusal h one. absurd (read_not_lexical bytes comes.repairs.program refusal reads h);
       deep = λ short at h. absurd (read_not_lexical bytes comes.repairs.program (Depth at) reads h);
-      not_built = λ short at h. absurd (not_built_not_read bytes at comes.repairs.program h reads);
+      not_built = λ short tokens are no. absurd (no comes.repairs.program (read_is_first bytes tokens comes.repairs.program are reads));
     }
 status_is words bytes left' faults faults' status (SourceRefused line) comes is asked none =
     let same : comes.input ≡ bytes = sym comes.read.whole in
@@ -113,7 +113,7 @@ status_is words bytes left' faults faults' status (SourceRefused line) comes is 
       reads = λ short program h. absurd (refused_not_read bytes r program refuses comes.refused.status h);
       lexical = λ short refusal h one. inl is;
       deep = λ short at h. absurd (refused_not_deep bytes r at refuses comes.refused.status h);
-      not_built = λ short at h. inl is;
+      not_built = λ short tokens are no. inl is;
     }
 status_is words bytes left' faults faults' status Usage comes is asked none =
     let bad : true ≡ false = sym asked ∙ comes.asked in let worse : ⊥ = cc bad in absurd worse
@@ -123,7 +123,7 @@ status_is words bytes left' faults faults' status TooLong comes is asked none =
       reads = λ short program h. let bad : ⊥ = omega (arith, comes.more, short) in absurd bad;
       lexical = λ short refusal h one. let bad : ⊥ = omega (arith, comes.more, short) in absurd bad;
       deep = λ short at h. let bad : ⊥ = omega (arith, comes.more, short) in absurd bad;
-      not_built = λ short at h. let bad : ⊥ = omega (arith, comes.more, short) in absurd bad;
+      not_built = λ short tokens are no. let bad : ⊥ = omega (arith, comes.more, short) in absurd bad;
     }
 status_is words bytes left' faults faults' status (Deep line) comes is asked none =
     let same : comes.input ≡ bytes = sym comes.read.whole in
@@ -135,7 +135,7 @@ status_is words bytes left' faults faults' status (Deep line) comes is asked non
       reads = λ short program h. absurd (read_not_lexical bytes program (Depth here) h deep);
       lexical = λ short refusal h one. absurd (deep_not_lexical bytes here refusal deep h one);
       deep = λ short at h. inl is;
-      not_built = λ short at h. absurd (not_built_not_lexical bytes at (Depth here) h deep);
+      not_built = λ short tokens are no. absurd (tokens_not_lexical bytes tokens (Depth here) are deep);
     }
 status_is words bytes left' faults faults' status ReadFault comes is asked none = absurd (none comes.rose)
 status_is words bytes left' faults faults' status Memory comes is asked none =
@@ -144,7 +144,7 @@ status_is words bytes left' faults faults' status Memory comes is asked none =
       reads = λ short program h. inr is;
       lexical = λ short refusal h one. inr is;
       deep = λ short at h. inr is;
-      not_built = λ short at h. inr is;
+      not_built = λ short tokens are no. inr is;
     }
 
 -- without a fault, the status is that of the outcome

@@ -23,6 +23,7 @@ use Rattle.memfix_engine.specs.Outcome.{status_of_lex, status_of_source}
 use Rattle.memfix_engine.specs.Source.{IsSource}
 use Rattle.memfix_engine.proofs.FormLemmas.{IsForm-unique}
 use Rattle.memfix_engine.proofs.FormTokens.{form_not_refused, form_not_deep}
+use Rattle.memfix_engine.proofs.PlaceLemmas.{place_not_first}
 
 -- a read text has a program
 pub source_reads : (b : List ℕ) (s : Source) → IsSource b s → Reads b s.program
@@ -51,16 +52,6 @@ pub first_absent : (ts : List Token) (d : Draft) → IsForm ts d → (r : Result
 first_absent ts d f (Ok (Some p)) is = tt
 first_absent ts d f (Ok None) is = not_first_by_names ts d f is
 first_absent ts d f (Err e) is = tt
-
--- tokens that stop somewhere to be the beginning of the first form are not of it
-pub place_not_first : (size : ℕ) (ts : List Token) (at : ℕ) → IsPlace size ts at → (p : Program) → IsFirst ts p → ⊥
-place_not_first size ts at h p f = by_behind h.behind h.whole h.stops
-  where
-    by_behind : (behind : List Token) → ts ≡ h.front ++ behind → Stops h.front behind → ⊥
-    by_behind [] whole stops = stops p (subst (λ us. IsFirst us p) (whole ∙ append-nil h.front) f)
-    by_behind (t ∷ behind) whole stops =
-        let split : ts ≡ (h.front ++ t ∷ []) ++ behind = whole ∙ sym (append_assoc h.front (t ∷ []) behind) in
-        stops (record { more = behind; program = p; first = subst (λ us. IsFirst us p) split f })
 
 -- a text has one answer
 pub answer_unique : (b : List ℕ) (x y : Result Tokens LexRefusal) → Answers b x → Answers b y → x ≡ y
@@ -112,16 +103,20 @@ refusal_unique b r s h k = let e : (let x : Result Tokens LexRefusal = Err r in 
 pub read_not_lexical : (b : List ℕ) (p : Program) (r : LexRefusal) → Reads b p → Answers b (Err r) → ⊥
 read_not_lexical b p r h k = let l = reads_lexed b p h in answered_not_refused b l.tokens r (tokens_answer b l.tokens l.are) k
 
-pub not_built_not_lexical : (b : List ℕ) (at : ℕ) (r : LexRefusal) → IsNotBuilt b at → Answers b (Err r) → ⊥
-not_built_not_lexical b at r h k = answered_not_refused b h.tokens r (tokens_answer b h.tokens h.are) k
-
-pub not_built_not_read : (b : List ℕ) (at : ℕ) (p : Program) → IsNotBuilt b at → Reads b p → ⊥
-not_built_not_read b at p h k =
+-- the tokens of a text that reads as a program are of the first form
+pub read_is_first : (b : List ℕ) (ts : Tokens) (p : Program) → AreTokens b ts → Reads b p → IsFirst ts.list p
+read_is_first b ts p h k =
     let l = reads_lexed b p k in
-    let e : (let x : Result Tokens LexRefusal = Ok l.tokens in x) ≡ Ok h.tokens =
-    answer_unique b (Ok l.tokens) (Ok h.tokens) (tokens_answer b l.tokens l.are) (tokens_answer b h.tokens h.are) in
-    let same : l.tokens ≡ h.tokens = cc in
-    place_not_first (length b) h.tokens.list at h.place p (subst (λ ts. IsFirst ts.list p) same l.first)
+    let e : (let x : Result Tokens LexRefusal = Ok l.tokens in x) ≡ Ok ts =
+    answer_unique b (Ok l.tokens) (Ok ts) (tokens_answer b l.tokens l.are) (tokens_answer b ts h) in
+    let same : l.tokens ≡ ts = cc in
+    subst (λ us. IsFirst us.list p) same l.first
+
+pub tokens_not_lexical : (b : List ℕ) (ts : Tokens) (r : LexRefusal) → AreTokens b ts → Answers b (Err r) → ⊥
+tokens_not_lexical b ts r h k = answered_not_refused b ts r (tokens_answer b ts h) k
+
+not_built_not_read : (b : List ℕ) (at : ℕ) (p : Program) → IsNotBuilt b at → Reads b p → ⊥
+not_built_not_read b at p h k = place_not_first (length b) h.tokens.list at p h.place (read_is_first b h.tokens p h.are k)
 
 -- a refused source reads as no program, and is not too deep
 
@@ -137,8 +132,14 @@ lex_not_deep b r at h one k =
 
 pub refused_not_deep : (b : List ℕ) (r : SourceRefusal) (at : ℕ) → RefusesSource b r → status_of_source r ≡ 1 → Answers b (Err (Depth at)) → ⊥
 refused_not_deep b (source.Lex r) at h one k = lex_not_deep b r at h one k
-refused_not_deep b (source.NotBuilt n) at h one k = not_built_not_lexical b n (Depth at) h k
+refused_not_deep b (source.NotBuilt n) at h one k = tokens_not_lexical b h.tokens (Depth at) h.are k
 refused_not_deep b source.Memory at h one k = let no : ⊥ = omega (arith, one) in no
+
+-- nothing but want of memory keeps a text of the first form from being read
+pub refused_only : (b : List ℕ) (r : SourceRefusal) → RefusesSource b r → (r ≡ source.Memory → ⊥) → (p : Program) → Reads b p → ⊥
+refused_only b (source.Lex r) h other p k = read_not_lexical b p r k h
+refused_only b (source.NotBuilt at) h other p k = not_built_not_read b at p h k
+refused_only b source.Memory h other p k = other refl
 
 -- a source that is too deep is not refused otherwise
 pub deep_not_lexical : (b : List ℕ) (at : ℕ) (r : LexRefusal) → Answers b (Err (Depth at)) → Answers b (Err r) → status_of_lex r ≡ 1 → ⊥

@@ -3,15 +3,16 @@ use Rattle.std.specs.Prelude.{◌≡◌, ◌<◌, ◌≤◌, ◌⊎◌, ℕ, Opt
 use Rattle.std.specs.declared.alloc.Global.{Global}
 use Rattle.c_lexer.specs.declared.refusal.LexRefusal.{LexRefusal}
 use Rattle.c_lexer.specs.declared.refusal.LexRefusal.TheVariants.{Depth}
-use Rattle.c_lexer.specs.Outcome.{Answers}
+use Rattle.c_lexer.specs.declared.token.Tokens.{Tokens}
+use Rattle.c_lexer.specs.Outcome.{AreTokens, Answers}
 use Rattle.c_tree.specs.declared.program.Program.{Program}
 use Rattle.mf_io.specs.Bytes.{Takes}
 use Rattle.mf_io.specs.Faults.{Rose}
 use Rattle.mf_io.specs.Whole.{TakesPart}
 use Rattle.memfix_engine.specs.declared.outcome.Outcome.{Outcome}
 use Rattle.memfix_engine.specs.declared.outcome.Outcome.TheVariants as outcome
-use Rattle.memfix_engine.specs.Reads.{Reads}
-use Rattle.memfix_engine.specs.Refusal.{IsNotBuilt, source_limit}
+use Rattle.memfix_engine.specs.Reads.{IsFirst, Reads}
+use Rattle.memfix_engine.specs.Refusal.{source_limit}
 use Rattle.memfix_engine.specs.Outcome.{IsRepaired, status_of, status_of_lex, notes_of}
 
 -- done: the repair of the source's bytes was appended
@@ -43,7 +44,8 @@ pub record IsStatusOf (bytes : List ℕ) (status : ℕ) : Type 0 where
   pub reads : length bytes ≤ source_limit → (program : Program) → Reads bytes program → (status ≡ 0) ⊎ (status ≡ 7)
   pub lexical : length bytes ≤ source_limit → (refusal : LexRefusal) → Answers bytes (Err refusal) → status_of_lex refusal ≡ 1 → (status ≡ 1) ⊎ (status ≡ 7)
   pub deep : length bytes ≤ source_limit → (at : ℕ) → Answers bytes (Err (Depth at)) → (status ≡ 4) ⊎ (status ≡ 7)
-  pub not_built : length bytes ≤ source_limit → (at : ℕ) → IsNotBuilt bytes at → (status ≡ 1) ⊎ (status ≡ 7)
+  pub not_built : length bytes ≤ source_limit → (tokens : Tokens) → AreTokens bytes tokens → ((program : Program) → IsFirst tokens.list program → ⊥)
+      → (status ≡ 1) ⊎ (status ≡ 7)
 
 -- the piece was appended and the status is this, or the sink failed and the status is 6
 abbrev pub Written : (taken taken' : Option (List ℕ)) (faults faults' : ℕ) (piece : List ℕ) (status result : ℕ) → Type 0

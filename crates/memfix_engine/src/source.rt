@@ -1,8 +1,9 @@
 //! A text read as a program.
-ghost use Rattle.std.specs.Prelude.{IfOk, IfErr, IfSome, IfNone};
+ghost use Rattle.std.specs.Prelude.{◌≡◌, IfOk, IfErr, IfSome, IfNone};
 ghost use Rattle.c_lexer.specs.Outcome.{AreTokens};
 ghost use Rattle.c_tree.specs.declared.program.Program.{Program};
 ghost use Rattle.memfix_engine.specs.Reads.{Reads, IsFirst};
+ghost use Rattle.memfix_engine.specs.declared.refusal.SourceRefusal.TheVariants.{Memory};
 ghost use Rattle.memfix_engine.specs.Refusal.{RefusesSource};
 ghost use Rattle.memfix_engine.specs.Source.{IsSource};
 
@@ -62,6 +63,7 @@ pub(crate) fn read_text(alloc: Global, bytes: &[u8]) -> Result<Source, SourceRef
 pub fn read_source(alloc: Global, bytes: &[u8]) -> Result<Program, SourceRefusal>
     ensures built { IfOk result (Reads bytes.now) }
     ensures refused { IfErr result (RefusesSource bytes.now) }
+    ensures only { IfErr result (λ r. (r ≡ Memory → ⊥) → (p : Program) → Reads bytes.now p → ⊥) }
 {
     let Source { program, .. } = read_text(alloc, bytes)?;
     Ok(program)
