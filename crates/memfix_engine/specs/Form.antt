@@ -4,7 +4,7 @@ use Rattle.std.specs.Cmp.Lexicographic.{pointwise}
 use Rattle.c_lexer.specs.declared.token.Token.{Token}
 use Rattle.c_lexer.specs.declared.token.Kind.{Kind}
 use Rattle.c_lexer.specs.declared.token.Kind.TheVariants as kind
-use Rattle.memfix_engine.specs.declared.kinds.TheConstants.{KEY_FREE, KEY_INT, KEY_MALLOC, KEY_PRINTF, KEY_RETURN, KEY_SIZEOF, KEY_VOID, PUNCT_OPEN, PUNCT_CLOSE, PUNCT_STAR, PUNCT_COMMA, PUNCT_SEMICOLON, PUNCT_ASSIGN, PUNCT_OPEN_BRACE, PUNCT_CLOSE_BRACE}
+use Rattle.memfix_engine.specs.Words.{key_free, key_int, key_malloc, key_printf, key_return, key_sizeof, key_void, punct_open, punct_close, punct_star, punct_comma, punct_semicolon, punct_assign, punct_open_brace, punct_close_brace}
 use Rattle.memfix_engine.specs.declared.draft.Want.{Want}
 use Rattle.memfix_engine.specs.declared.draft.Want.TheVariants.{Key, Punct, Name, Main, Number, Format}
 use Rattle.memfix_engine.specs.declared.draft.Pattern.{Pattern}
@@ -35,23 +35,23 @@ matches (w ∷ ws) (t ∷ ts) = fits w t.kind && matches ws ts
 
 -- int main ( void ) {
 abbrev pub head_pattern : List Want
-head_pattern = Key KEY_INT ∷ Main ∷ Punct PUNCT_OPEN ∷ Key KEY_VOID ∷ Punct PUNCT_CLOSE ∷ Punct PUNCT_OPEN_BRACE ∷ []
+head_pattern = Key key_int ∷ Main ∷ Punct punct_open ∷ Key key_void ∷ Punct punct_close ∷ Punct punct_open_brace ∷ []
 
 -- return K ; }
 abbrev pub tail_pattern : List Want
-tail_pattern = Key KEY_RETURN ∷ Number ∷ Punct PUNCT_SEMICOLON ∷ Punct PUNCT_CLOSE_BRACE ∷ []
+tail_pattern = Key key_return ∷ Number ∷ Punct punct_semicolon ∷ Punct punct_close_brace ∷ []
 
 abbrev pub wants : Pattern → List Want
 -- int * N = malloc ( sizeof ( int ) ) ;
-wants pattern.Make = Key KEY_INT ∷ Punct PUNCT_STAR ∷ Name ∷ Punct PUNCT_ASSIGN ∷ Key KEY_MALLOC ∷ Punct PUNCT_OPEN ∷ Key KEY_SIZEOF
-    ∷ Punct PUNCT_OPEN ∷ Key KEY_INT ∷ Punct PUNCT_CLOSE ∷ Punct PUNCT_CLOSE ∷ Punct PUNCT_SEMICOLON ∷ []
+wants pattern.Make = Key key_int ∷ Punct punct_star ∷ Name ∷ Punct punct_assign ∷ Key key_malloc ∷ Punct punct_open ∷ Key key_sizeof
+    ∷ Punct punct_open ∷ Key key_int ∷ Punct punct_close ∷ Punct punct_close ∷ Punct punct_semicolon ∷ []
 -- * N = K ;
-wants pattern.Store = Punct PUNCT_STAR ∷ Name ∷ Punct PUNCT_ASSIGN ∷ Number ∷ Punct PUNCT_SEMICOLON ∷ []
+wants pattern.Store = Punct punct_star ∷ Name ∷ Punct punct_assign ∷ Number ∷ Punct punct_semicolon ∷ []
 -- printf ( "%d\n" , * N ) ;
-wants pattern.Show = Key KEY_PRINTF ∷ Punct PUNCT_OPEN ∷ Format ∷ Punct PUNCT_COMMA ∷ Punct PUNCT_STAR ∷ Name ∷ Punct PUNCT_CLOSE ∷ Punct PUNCT_SEMICOLON ∷ []
+wants pattern.Show = Key key_printf ∷ Punct punct_open ∷ Format ∷ Punct punct_comma ∷ Punct punct_star ∷ Name ∷ Punct punct_close ∷ Punct punct_semicolon ∷ []
 -- free ( N ) ;
-wants pattern.Free = Key KEY_FREE ∷ Punct PUNCT_OPEN ∷ Name ∷ Punct PUNCT_CLOSE ∷ Punct PUNCT_SEMICOLON ∷ []
-wants pattern.Empty = Punct PUNCT_SEMICOLON ∷ []
+wants pattern.Free = Key key_free ∷ Punct punct_open ∷ Name ∷ Punct punct_close ∷ Punct punct_semicolon ∷ []
+wants pattern.Empty = Punct punct_semicolon ∷ []
 
 -- what the tokens of a match carry, by their places in it
 
@@ -129,8 +129,8 @@ pub record IsForm (ts : List Token) (d : Draft) : Type 0 where
 
 -- the pattern that the first token calls for
 abbrev pub candidate : Kind → Option Pattern
-candidate (kind.Key n) = if n == KEY_INT then Some pattern.Make else (if n == KEY_PRINTF then Some pattern.Show else (if n == KEY_FREE then Some pattern.Free else None))
-candidate (kind.Punct n) = if n == PUNCT_STAR then Some pattern.Store else (if n == PUNCT_SEMICOLON then Some pattern.Empty else None)
+candidate (kind.Key n) = if n == key_int then Some pattern.Make else (if n == key_printf then Some pattern.Show else (if n == key_free then Some pattern.Free else None))
+candidate (kind.Punct n) = if n == punct_star then Some pattern.Store else (if n == punct_semicolon then Some pattern.Empty else None)
 candidate _ = None
 
 abbrev pub candidate_at : List Token → Option Pattern

@@ -6,7 +6,7 @@ use Rattle.c_lexer.specs.declared.token.Kind.{Kind}
 use Rattle.c_lexer.specs.declared.token.Kind.TheVariants.{Name, Key, Punct}
 use Rattle.c_lexer.specs.Bytes.{is_digit, is_word_byte}
 use Rattle.c_lexer.specs.Words.{kind_of_word}
-use Rattle.memfix_engine.specs.declared.kinds.TheConstants.{KEY_FREE, PUNCT_OPEN, PUNCT_CLOSE, PUNCT_SEMICOLON}
+use Rattle.memfix_engine.specs.Words.{key_free, punct_open, punct_close, punct_semicolon}
 
 abbrev pub begins_word : List ℕ → Bool
 begins_word [] = false
@@ -29,11 +29,11 @@ token_of kind at n = record { kind = kind; start = at; end = at + n }
 -- its tokens, where it begins at an offset
 abbrev pub free_tokens_of : ℕ → List ℕ → List Token
 free_tokens_of at x =
-    token_of (Key KEY_FREE) (at + 1) 4
-    ∷ token_of (Punct PUNCT_OPEN) (at + 5) 1
+    token_of (Key key_free) (at + 1) 4
+    ∷ token_of (Punct punct_open) (at + 5) 1
     ∷ token_of (Name x) (at + 6) (length x)
-    ∷ token_of (Punct PUNCT_CLOSE) (at + 6 + length x) 1
-    ∷ token_of (Punct PUNCT_SEMICOLON) (at + 7 + length x) 1
+    ∷ token_of (Punct punct_close) (at + 6 + length x) 1
+    ∷ token_of (Punct punct_semicolon) (at + 7 + length x) 1
     ∷ []
 
 -- the tokens of such texts, one behind the other

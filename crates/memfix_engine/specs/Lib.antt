@@ -15,3 +15,4 @@ pub mod Refusal
 pub mod Repair
 pub mod Source
 pub mod Straight
+pub mod Words

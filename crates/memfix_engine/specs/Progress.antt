@@ -5,7 +5,7 @@ use Rattle.std.specs.List.{list_any}
 use Rattle.c_lexer.specs.declared.token.Token.{Token}
 use Rattle.c_lexer.specs.declared.token.Kind.{Kind}
 use Rattle.c_lexer.specs.declared.token.Kind.TheVariants as kind
-use Rattle.memfix_engine.specs.declared.kinds.TheConstants.{KEY_RETURN}
+use Rattle.memfix_engine.specs.Words.{key_return}
 use Rattle.memfix_engine.specs.declared.draft.Want.{Want}
 use Rattle.memfix_engine.specs.declared.draft.Want.TheVariants.{Key, Name}
 use Rattle.memfix_engine.specs.declared.draft.Pattern.{Pattern}
@@ -54,7 +54,7 @@ may_begin _ (name ∷ names) = true
 -- a step or the return begins with the token
 abbrev pub begun_by : List (List ℕ) → Kind → Option Pattern → Option Progress
 begun_by names k (Some p) = if may_begin p names then Some (record { names = names; part = part.Step p; at = 1 }) else None
-begun_by names k None = if fits (Key KEY_RETURN) k then Some (record { names = names; part = part.Tail; at = 1 }) else None
+begun_by names k None = if fits (Key key_return) k then Some (record { names = names; part = part.Tail; at = 1 }) else None
 
 abbrev pub begun : List (List ℕ) → Kind → Option Progress
 begun names k = begun_by names k (candidate k)
