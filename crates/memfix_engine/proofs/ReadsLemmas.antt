@@ -1,5 +1,5 @@
 -- A text has one answer of the lexer, and its tokens have one draft: so each refusal excludes the others, and any program.
-use Rattle.std.proofs.Common.{◌≡◌, ℕ, List, [], ◌∷◌, ◌++◌, Option, Some, None, Result, Ok, Err, IfOk, IfSome, IfNone, length, sym, ◌∙◌, ap, subst, refl, append_assoc, arith}
+use Rattle.std.proofs.Common.{◌≡◌, ℕ, List, [], ◌∷◌, ◌++◌, Option, Some, None, Result, Ok, Err, IfOk, IfErr, IfSome, IfNone, ◌≤◌, length, sym, ◌∙◌, ap, subst, refl, append_assoc, arith}
 use Rattle.std.proofs.lemmas.List.{append-nil}
 use Rattle.std.specs.declared.alloc.AllocError.{AllocError}
 use Rattle.c_lexer.specs.declared.reading.Reading.{Reading}
@@ -14,16 +14,19 @@ use Rattle.memfix_engine.specs.declared.draft.Draft.{Draft}
 use Rattle.memfix_engine.specs.declared.source.Source.{Source}
 use Rattle.memfix_engine.specs.declared.refusal.SourceRefusal.{SourceRefusal}
 use Rattle.memfix_engine.specs.declared.refusal.SourceRefusal.TheVariants as source
+use Rattle.memfix_engine.specs.declared.refusal.RepairRefusal.{RepairRefusal}
+use Rattle.memfix_engine.specs.declared.refusal.RepairRefusal.TheVariants as repair
 use Rattle.memfix_engine.specs.Form.{IsForm}
 use Rattle.memfix_engine.specs.Reading.{program_of}
 use Rattle.memfix_engine.specs.Reads.{Reads, IsFirst}
 use Rattle.memfix_engine.specs.Prefix.{IsPlace, Stops}
-use Rattle.memfix_engine.specs.Refusal.{IsNotBuilt, RefusesSource}
+use Rattle.memfix_engine.specs.Refusal.{IsNotBuilt, RefusesSource, RefusesRepair, source_limit}
 use Rattle.memfix_engine.specs.Outcome.{status_of_lex, status_of_source}
 use Rattle.memfix_engine.specs.Source.{IsSource}
 use Rattle.memfix_engine.proofs.FormLemmas.{IsForm-unique}
 use Rattle.memfix_engine.proofs.FormTokens.{form_not_refused, form_not_deep}
 use Rattle.memfix_engine.proofs.PlaceLemmas.{place_not_first}
+use Rattle.memfix_engine.proofs.TextLemmas.{tokens_unique}
 
 -- a read text has a program
 pub source_reads : (b : List ℕ) (s : Source) → IsSource b s → Reads b s.program
@@ -144,3 +147,25 @@ refused_only b source.Memory h other p k = other refl
 -- a source that is too deep is not refused otherwise
 pub deep_not_lexical : (b : List ℕ) (at : ℕ) (r : LexRefusal) → Answers b (Err (Depth at)) → Answers b (Err r) → status_of_lex r ≡ 1 → ⊥
 deep_not_lexical b at r h k one = lex_not_deep b r at k one h
+
+-- the same, for an answer
+
+pub only_refused : {A : Type 0} (b : List ℕ) (x : Result A SourceRefusal) → IfErr x (RefusesSource b)
+    → IfErr x (λ r. (r ≡ source.Memory → ⊥) → (p : Program) → Reads b p → ⊥)
+only_refused b (Ok a) h = tt
+only_refused b (Err r) h = refused_only b r h
+
+pub repair_refused_only : (b : List ℕ) (r : RepairRefusal) → RefusesRepair b r → (r ≡ repair.Memory → ⊥) → length b ≤ source_limit → (p : Program) → Reads b p → ⊥
+repair_refused_only b repair.TooLong h other fits p k = omega (arith, h, fits)
+repair_refused_only b (repair.Source (source.Lex r)) h other fits p k = read_not_lexical b p r k h.1
+repair_refused_only b (repair.Source (source.NotBuilt at)) h other fits p k = not_built_not_read b at p h.1 k
+repair_refused_only b (repair.Source source.Memory) h other fits p k = h
+repair_refused_only b repair.Memory h other fits p k = other refl
+
+-- a text reads as one program
+pub reads_unique : (b : List ℕ) (p q : Program) → Reads b p → Reads b q → p ≡ q
+reads_unique b p q h k =
+    let same : h.tokens ≡ k.tokens = tokens_unique b h.tokens k.tokens h.scanned k.scanned in
+    let draft : h.first.draft ≡ k.first.draft = IsForm-unique k.tokens h.first.draft k.first.draft (subst (λ ts. IsForm ts h.first.draft) same h.first.form) k.first.form in
+    let e : Some p ≡ Some q = sym h.first.program ∙ ap program_of draft ∙ k.first.program in
+    cc

@@ -2,6 +2,8 @@
 ghost use Rattle.std.specs.Prelude.{◌≡◌, ◌≤◌, false, length, IfOk, IfErr, OnOk, IsTrue};
 ghost use Rattle.c_tree.specs.Fill.{IsAscending};
 ghost use Rattle.memfix_engine.specs.Own.{are_numbered};
+ghost use Rattle.c_tree.specs.declared.program.Program.{Program};
+ghost use Rattle.memfix_engine.specs.Reads.{Reads};
 ghost use Rattle.memfix_engine.specs.Refusal.{RefusesRepair, source_limit};
 ghost use Rattle.memfix_engine.specs.Repair.{Repairs, return_puts, choice_of};
 
@@ -60,6 +62,7 @@ pub fn repair(alloc: Global, bytes: &[u8], cert: bool) -> Result<Vec<u8>, Repair
     ensures repairs { IfOk result (λ w. Repairs bytes.now w.items) }
     ensures fits { OnOk result (length bytes.now ≤ source_limit) }
     ensures refused { IfErr result (RefusesRepair bytes.now) }
+    ensures only { IfErr result (λ r. (r ≡ RepairRefusal.Memory → ⊥) → length bytes.now ≤ source_limit → (p : Program) → Reads bytes.now p → ⊥) }
 {
     let _uncertified = cert;
     if bytes.len() > SOURCE_LIMIT {
