@@ -4,7 +4,7 @@ use Rattle.std.proofs.Math.Seq.{take-add, drop-append_seam}
 use Rattle.std.proofs.lemmas.List.{take-append-drop, take-append-le, take-take, drop-drop, length-take-le}
 use Rattle.std.specs.List.{flat_map}
 use Rattle.memfix_engine.specs.declared.edit.Change.{Change}
-use Rattle.memfix_engine.specs.FreeText.{free_text}
+use Rattle.memfix_engine.specs.Edit.{free_text}
 use Rattle.memfix_engine.specs.Edit.{changed}
 use Rattle.memfix_engine.proofs.Emptied.{insertion}
 

@@ -11,7 +11,7 @@ use Rattle.memfix_engine.specs.Reads.{Reads}
 use Rattle.memfix_engine.specs.Refusal.{RefusesSource, source_limit}
 use Rattle.memfix_engine.specs.Outcome.{IsRepaired, IsSourceRefused, Due, usage, refused, limit, read_fault, memory, is_repair, is_done, status_of, ComesTo}
 use Rattle.memfix_engine.proofs.ReadsLemmas.{read_not_lexical, tokens_not_lexical, read_is_first, refused_not_read, refused_not_deep, deep_not_lexical}
-use Rattle.memfix_engine.specs.Command.{Said, Cut, IsStatusOf, Written, Finishes}
+use Rattle.memfix_engine.specs.Command.{Repaired, Said, Cut, IsStatusOf, Written, Finishes}
 
 -- a write that answers 6 in place of another status was cut
 pub cut_of : (taken taken' : Option (List ℕ)) (faults faults' : ℕ) (piece : List ℕ) (status result : ℕ) (IsDue : List ℕ → Type 0)
@@ -86,6 +86,35 @@ write_fault words left left' faults faults' taken taken' missed missed' said sai
     inr (cut_of said said' silent silent' _ 5 status (Due words left left' faults faults') written (λ e. omega (arith, e)) is (read_fault comes), untouched refl)
 write_fault words left left' faults faults' taken taken' missed missed' said said' silent silent' output output' notes notes' status Memory comes written quiet untouched is =
     inr (cut_of said said' silent silent' _ 7 status (Due words left left' faults faults') written (λ e. omega (arith, e)) is (memory comes), untouched refl)
+
+-- a line was written, so the status is not 0
+not_done : (said said' : Option (List ℕ)) (silent silent' : ℕ) (line : List ℕ) (due status : ℕ)
+    → Written said said' silent silent' line due status → (due ≡ 0 → ⊥) → status ≡ 0 → ⊥
+not_done said said' silent silent' line due status (inl w) other is = other (sym w.0 ∙ is)
+not_done said said' silent silent' line due status (inr w) other is = let bad : ⊥ = omega (arith, w.0, is) in bad
+
+-- status 0 comes with the repaired text alone
+pub done_of : (words : List (String Global)) (left left' : Option (List ℕ)) (faults faults' : ℕ)
+    (taken taken' : Option (List ℕ)) (missed missed' : ℕ) (said said' : Option (List ℕ)) (silent silent' : ℕ) (status : ℕ) (o : Outcome)
+    → ComesTo words left left' faults faults' o
+    → Finishes taken taken' missed missed' said said' silent silent' status o
+    → status ≡ 0 → Repaired words left left' taken taken'
+done_of words left left' faults faults' taken taken' missed missed' said said' silent silent' status (Done text) comes (inl w) is =
+    record { text = text.items; repaired = comes; takes = w.1 }
+done_of words left left' faults faults' taken taken' missed missed' said said' silent silent' status (Done text) comes (inr w) is =
+    let bad : ⊥ = omega (arith, w.0, is) in absurd bad
+done_of words left left' faults faults' taken taken' missed missed' said said' silent silent' status (SourceRefused line) comes written is =
+    absurd (not_done said said' silent silent' _ 1 status written (λ e. omega (arith, e)) is)
+done_of words left left' faults faults' taken taken' missed missed' said said' silent silent' status Usage comes written is =
+    absurd (not_done said said' silent silent' _ 2 status written (λ e. omega (arith, e)) is)
+done_of words left left' faults faults' taken taken' missed missed' said said' silent silent' status TooLong comes written is =
+    absurd (not_done said said' silent silent' _ 4 status written (λ e. omega (arith, e)) is)
+done_of words left left' faults faults' taken taken' missed missed' said said' silent silent' status (Deep line) comes written is =
+    absurd (not_done said said' silent silent' _ 4 status written (λ e. omega (arith, e)) is)
+done_of words left left' faults faults' taken taken' missed missed' said said' silent silent' status ReadFault comes written is =
+    absurd (not_done said said' silent silent' _ 5 status written (λ e. omega (arith, e)) is)
+done_of words left left' faults faults' taken taken' missed missed' said said' silent silent' status Memory comes written is =
+    absurd (not_done said said' silent silent' _ 7 status written (λ e. omega (arith, e)) is)
 
 -- the status of an outcome that comes of these bytes
 pub status_is : (words : List (String Global)) (bytes : List ℕ) (left' : Option (List ℕ)) (faults faults' : ℕ) (status : ℕ) (o : Outcome)

@@ -40,8 +40,8 @@ use Rattle.memfix_engine.specs.Reading.{item_piece, return_of, result_of, gap_of
 use Rattle.memfix_engine.specs.Edit.{is_of, are_put, blanks, written, gap_changes, piece_changes, changes}
 use Rattle.memfix_engine.specs.Own.{put_of, freed, own_puts}
 use Rattle.memfix_engine.specs.Repair.{return_puts}
-use Rattle.memfix_engine.specs.Straight as straight
-use Rattle.memfix_engine.specs.Straight.{IsStraight, declares, stores, shows, AreFrees, gap_with, Straight, none, more, IsSound}
+use Rattle.memfix_engine.proofs.Straight as straight
+use Rattle.memfix_engine.proofs.Straight.{IsStraight, declares, stores, shows, AreFrees, gap_with, Straight, none, more, IsSound}
 use Rattle.memfix_engine.proofs.Emptied.{cleared_piece, cleared}
 use Rattle.memfix_engine.proofs.GapLemmas.{puts_elsewhere, puts_there, return_puts_are, gap_before, gap_before_is, return_piece, IsKept, AreKept, kept_front, kept_rest, own_kept, variable_is, all_vars, piece_changes_are, changes_of_whole}
 

@@ -13,10 +13,10 @@ use Rattle.memfix_engine.specs.declared.kinds.TheConstants.{KEY_FREE, KEY_INT, K
 use Rattle.memfix_engine.specs.declared.draft.Pattern.TheVariants as pattern
 use Rattle.memfix_engine.specs.declared.draft.Draft.{Draft}
 use Rattle.memfix_engine.specs.declared.reading.Reading.{Reading}
-use Rattle.memfix_engine.specs.FreeText.{token_of}
+use Rattle.memfix_engine.proofs.FreeText.{token_of}
 use Rattle.memfix_engine.specs.Form.{step_of, draft_of}
 use Rattle.memfix_engine.specs.Reading.{declared, stored, item_piece, whole_of, program_of}
-use Rattle.memfix_engine.specs.Straight.{gap_with}
+use Rattle.memfix_engine.proofs.Straight.{gap_with}
 use Rattle.memfix_engine.specs.Edit.{edited, AreInOrder}
 use Rattle.memfix_engine.specs.Own.{put_of, own_puts, fits, are_numbered}
 use Rattle.memfix_engine.specs.Repair.{return_puts, choice_of}

@@ -26,14 +26,16 @@ use Rattle.memfix_engine.specs.declared.draft.Step.{Step}
 use Rattle.memfix_engine.specs.declared.draft.Draft.{Draft}
 use Rattle.memfix_engine.specs.declared.edit.Change.{Change}
 use Rattle.memfix_engine.specs.declared.reading.Reading.{Reading}
-use Rattle.memfix_engine.specs.FreeText.{free_text, free_tokens_of}
+use Rattle.memfix_engine.specs.Names.{names_of}
+use Rattle.memfix_engine.specs.Edit.{free_text}
+use Rattle.memfix_engine.proofs.FreeText.{free_tokens_of}
 use Rattle.memfix_engine.specs.Form.{start_at, step_of}
 use Rattle.memfix_engine.specs.Reading.{var_of, item_piece, gap_of, result_of, with_item, with_make, made, declared, stored, shown, released, stepped, stepped_by, read_from, nothing_read, whole_of}
 use Rattle.memfix_engine.specs.Edit.{is_of, are_put, blanks, name_of, written, gap_changes, piece_changes, changes}
 use Rattle.memfix_engine.specs.Own.{put_of}
 use Rattle.memfix_engine.specs.Repair.{return_puts}
-use Rattle.memfix_engine.specs.Straight as straight
-use Rattle.memfix_engine.specs.Straight.{AreFrees, gap_with, Straight, IsSound}
+use Rattle.memfix_engine.proofs.Straight as straight
+use Rattle.memfix_engine.proofs.Straight.{AreFrees, gap_with, Straight, IsSound}
 use Rattle.memfix_engine.proofs.Emptied as marks
 use Rattle.memfix_engine.proofs.Emptied.{Marks, Emptied, step_blanks, marked_blanks, insertion, releases, cleared_piece, cleared, Clear}
 use Rattle.memfix_engine.proofs.EditAlike.{cleared_piece_is}
@@ -291,9 +293,6 @@ emptied_read last _ _ _ _ r q (lone {ms} {ss} {front} s d g) (marks.stays {us = 
 get_at_seam : {A : Type 0} (us : List A) (v : A) (vs : List A) → slice_get (us ++ v ∷ vs) (length us) ≡ Some v
 get_at_seam [] v vs = refl
 get_at_seam (u ∷ us) v vs = get_at_seam us v vs
-
-abbrev names_of : List VarDef → List (List ℕ)
-names_of vars = map (λ v. v.name) vars
 
 written_from : (at g a : ℕ) (every us vs ws : List VarDef) → a ≡ length us → every ≡ us ++ (vs ++ ws)
     → map (written every at) (map (put_of g) (range_with_len a (length vs))) ≡ map (insertion at) (names_of vs)

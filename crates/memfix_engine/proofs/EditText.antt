@@ -15,7 +15,8 @@ use Rattle.memfix_engine.specs.declared.draft.Release.{Release}
 use Rattle.memfix_engine.specs.declared.draft.Step.{Step}
 use Rattle.memfix_engine.specs.declared.draft.Want.{Want}
 use Rattle.memfix_engine.specs.declared.edit.Change.{Change}
-use Rattle.memfix_engine.specs.FreeText.{IsName, free_text, free_tokens, free_tokens_of, shifted}
+use Rattle.memfix_engine.specs.Edit.{free_text}
+use Rattle.memfix_engine.proofs.FreeText.{IsName, free_tokens, free_tokens_of, shifted}
 use Rattle.memfix_engine.specs.Form.{fits, is_main, matches, wants, tail_pattern, number_at, start_at, step_of, draft_of, Steps, IsForm}
 use Rattle.memfix_engine.specs.Edit.{blanked, changed}
 use Rattle.memfix_engine.proofs.Emptied.{Marks, Emptied, step_blanks, marked_blanks, insertion, releases}

@@ -11,11 +11,12 @@ use Rattle.memfix_engine.specs.declared.draft.Release.{Release}
 use Rattle.memfix_engine.specs.declared.draft.Step.{Step}
 use Rattle.memfix_engine.specs.declared.edit.Change.{Change}
 use Rattle.memfix_engine.specs.declared.reading.Reading.{Reading}
-use Rattle.memfix_engine.specs.FreeText.{free_text, free_tokens_of}
+use Rattle.memfix_engine.specs.Edit.{free_text}
+use Rattle.memfix_engine.proofs.FreeText.{free_tokens_of}
 use Rattle.memfix_engine.specs.Form.{step_of}
 use Rattle.memfix_engine.specs.Reading.{item_piece}
 use Rattle.memfix_engine.specs.Edit.{blanked}
-use Rattle.memfix_engine.specs.Straight.{IsStraight, gap_with}
+use Rattle.memfix_engine.proofs.Straight.{IsStraight, gap_with}
 
 -- a mark for each step; those that are marked are `free` statements
 pub data Marks : List Bool → List Step → Type 0 where

@@ -23,7 +23,7 @@ use Rattle.memfix_engine.specs.Reading.{item_piece, gap_of, return_of, result_of
 use Rattle.memfix_engine.specs.Edit.{gap_changes, piece_changes, block_changes, changes}
 use Rattle.memfix_engine.specs.Own.{put_of, variable_of, variable, freed, gaps_of_block, gaps_of, own_puts}
 use Rattle.memfix_engine.specs.Repair.{return_puts}
-use Rattle.memfix_engine.specs.Straight.{gap_with, Straight, none, more, IsSound}
+use Rattle.memfix_engine.proofs.Straight.{gap_with, Straight, none, more, IsSound}
 
 -- lists
 

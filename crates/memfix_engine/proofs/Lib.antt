@@ -12,6 +12,7 @@ pub mod EditTokens
 pub mod Emptied
 pub mod FormLemmas
 pub mod FormTokens
+pub mod FreeText
 pub mod GapLemmas
 pub mod NameLemmas
 mod NotesExamples
@@ -25,6 +26,7 @@ pub mod ProgressParts
 pub mod ReadsLemmas
 pub mod RepairLemmas
 pub mod SoundLemmas
+pub mod Straight
 pub mod StraightCourses
 pub mod StraightRuns
 pub mod TextLemmas

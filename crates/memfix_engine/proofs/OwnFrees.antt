@@ -19,8 +19,8 @@ use Rattle.memfix_engine.specs.declared.draft.Draft.{Draft}
 use Rattle.memfix_engine.specs.declared.reading.Reading.{Reading}
 use Rattle.memfix_engine.specs.Own.{variable, variable_of, pointed_of, used, used_in, freed, pieces_of, gaps_of, is_freed_once, is_unused_behind, is_apart, is_ascending, fits}
 use Rattle.memfix_engine.specs.Reading.{item_piece, gap_of, return_of, result_of, whole_of}
-use Rattle.memfix_engine.specs.Straight as straight
-use Rattle.memfix_engine.specs.Straight.{IsStraight, AreFrees, Straight, gap_with, IsSound}
+use Rattle.memfix_engine.proofs.Straight as straight
+use Rattle.memfix_engine.proofs.Straight.{IsStraight, AreFrees, Straight, gap_with, IsSound}
 use Rattle.memfix_engine.proofs.Counts.{times, times_count, times-append, times_none, times_some, times_first, and_first, and_second, behind, times_moved, times-behind, Apart, Apart-none, Apart-behind, Apart-first, Apart-rest, range_each}
 use Rattle.memfix_engine.proofs.StraightCourses.{UsesNone, FreesAlong, ends, goes}
 use Rattle.memfix_engine.proofs.GapLemmas.{return_piece}

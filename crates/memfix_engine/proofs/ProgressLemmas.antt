@@ -19,7 +19,7 @@ use Rattle.memfix_engine.specs.Reading.{nothing_read, read_from, whole_of}
 use Rattle.memfix_engine.specs.Reads.{IsFirst}
 use Rattle.memfix_engine.specs.Progress.{wanted, declares, admits, names_behind, may_begin, begun_by, begun, begun_behind, advanced, advance, nothing_begun}
 use Rattle.memfix_engine.proofs.FormLemmas.{called_for, for_none, Spells-step_of}
-use Rattle.memfix_engine.proofs.DeclaredNames.{names_of, names_step, names_from, Read, read_named, named_read}
+use Rattle.memfix_engine.proofs.DeclaredNames.{read_names, names_step, names_from, Read, read_named, named_read}
 use Rattle.memfix_engine.proofs.ProgressParts.{and_left, and_right, if_some, fill, fill_matches, plain_fill, step_fill, begun_matches}
 
 -- the tokens fill what is left of a part, and steps and the return follow
@@ -371,7 +371,7 @@ first_completed ts p h =
       body = h.form.body;
       tail = h.form.tail;
       between = [];
-      last = names_of r.reading;
+      last = read_names r.reading;
       steps = h.draft.steps;
       whole = h.form.whole;
       filled = plain_fill false [] head_pattern h.form.head refl h.form.begins;

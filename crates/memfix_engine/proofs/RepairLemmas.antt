@@ -17,7 +17,7 @@ use Rattle.memfix_engine.specs.declared.draft.Step.{Step}
 use Rattle.memfix_engine.specs.declared.draft.Draft.{Draft}
 use Rattle.memfix_engine.specs.declared.edit.Change.{Change}
 use Rattle.memfix_engine.specs.declared.reading.Reading.{Reading}
-use Rattle.memfix_engine.specs.FreeText.{IsName}
+use Rattle.memfix_engine.proofs.FreeText.{IsName}
 use Rattle.memfix_engine.specs.Form.{IsForm, is_main}
 use Rattle.memfix_engine.specs.Reading.{read_from, nothing_read, whole_of}
 use Rattle.memfix_engine.specs.Reads.{IsFirst, Reads}
@@ -26,7 +26,7 @@ use Rattle.memfix_engine.specs.Source.{IsSource}
 use Rattle.memfix_engine.specs.Edit.{changed, edited, AreInOrder}
 use Rattle.memfix_engine.specs.Own.{fits, own_puts, is_ascending, are_numbered}
 use Rattle.memfix_engine.specs.Repair.{return_puts, choice_of, Repairs}
-use Rattle.memfix_engine.specs.Straight.{IsSound}
+use Rattle.memfix_engine.proofs.Straight.{IsSound}
 use Rattle.memfix_engine.proofs.Emptied.{cleared, insertion, marked_blanks}
 use Rattle.memfix_engine.proofs.TextLemmas.{AllNamed, tokens_named, tokens_ascend}
 use Rattle.memfix_engine.proofs.EditTokens.{Ascend_in_order}

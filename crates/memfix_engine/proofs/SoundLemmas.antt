@@ -21,11 +21,11 @@ use Rattle.memfix_engine.specs.declared.draft.Make.{Make}
 use Rattle.memfix_engine.specs.declared.draft.Release.{Release}
 use Rattle.memfix_engine.specs.declared.draft.Step.{Step}
 use Rattle.memfix_engine.specs.declared.reading.Reading.{Reading}
-use Rattle.memfix_engine.specs.FreeText.{IsName}
+use Rattle.memfix_engine.proofs.FreeText.{IsName}
 use Rattle.memfix_engine.specs.Form.{is_main, fits, matches, wants, word_of, word_at, deed_of, Steps, none, more}
 use Rattle.memfix_engine.specs.Reading.{var_of, item_piece, gap_of, with_item, with_make, made, declared, stored, shown, released, stepped, stepped_by, read_from, nothing_read}
-use Rattle.memfix_engine.specs.Straight as straight
-use Rattle.memfix_engine.specs.Straight.{IsStraight, declares, stores, shows, Straight, AreFrees, gap_with, IsSound}
+use Rattle.memfix_engine.proofs.Straight as straight
+use Rattle.memfix_engine.proofs.Straight.{IsStraight, declares, stores, shows, Straight, AreFrees, gap_with, IsSound}
 use Rattle.memfix_engine.proofs.FormLemmas.{matches-length}
 use Rattle.memfix_engine.proofs.TextLemmas.{IsNamed, AllNamed}
 use Rattle.memfix_engine.proofs.VarLemmas.{position-snoc_some, position-snoc_none, position-below, slice_get-snoc, pointwise_same}

@@ -25,7 +25,7 @@ use Rattle.c_meaning.proofs.Courses.{Course, safe_course}
 use Rattle.memfix_engine.specs.declared.draft.Draft.{Draft}
 use Rattle.memfix_engine.specs.declared.reading.Reading.{Reading}
 use Rattle.memfix_engine.specs.Reading.{item_piece, gap_of, return_of, result_of, body_of, main_of, whole_of}
-use Rattle.memfix_engine.specs.Straight.{IsStraight, gap_with}
+use Rattle.memfix_engine.proofs.Straight.{IsStraight, gap_with}
 use Rattle.memfix_engine.proofs.GapLemmas.{return_piece}
 
 -- the variable that an item uses is not gone

@@ -12,7 +12,7 @@ use Rattle.memfix_engine.specs.declared.draft.Draft.{Draft}
 use Rattle.memfix_engine.specs.declared.reading.Reading.{Reading}
 use Rattle.memfix_engine.specs.Own.{fits}
 use Rattle.memfix_engine.specs.Reading.{whole_of}
-use Rattle.memfix_engine.specs.Straight.{IsStraight, IsSound}
+use Rattle.memfix_engine.proofs.Straight.{IsStraight, IsSound}
 use Rattle.memfix_engine.proofs.Emptied as emptied
 use Rattle.memfix_engine.proofs.Emptied.{Clear}
 use Rattle.memfix_engine.proofs.StraightCourses.{UsesNone, FreesAlong, ends, goes, safe_along}

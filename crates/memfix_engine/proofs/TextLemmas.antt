@@ -20,7 +20,8 @@ use Rattle.c_lexer.proofs.Lexemes.{Spelling, piece_within, name_spelling, name_p
 use Rattle.c_lexer.proofs.Edits.{only, tokens_put}
 pub use Rattle.c_lexer.proofs.Edits.{tokens_unique, tokens_blanked}
 use Rattle.memfix_engine.specs.declared.kinds.TheConstants.{KEY_FREE, PUNCT_OPEN, PUNCT_CLOSE, PUNCT_SEMICOLON}
-use Rattle.memfix_engine.specs.FreeText.{begins_word, IsName, free_text, token_of, free_tokens_of, free_tokens, shifted}
+use Rattle.memfix_engine.specs.Edit.{free_text}
+use Rattle.memfix_engine.proofs.FreeText.{begins_word, IsName, token_of, free_tokens_of, free_tokens, shifted}
 
 -- ---- names
 

@@ -1,6 +1,6 @@
 -- The text in which a program's gaps are filled by a choice: old frees become blanks, and new ones are
 -- written. Frees are of variables, in gaps of the outermost blocks.
-use Rattle.std.specs.Prelude.{ℕ, ◌-◌, Bool, true, false, ◌&&◌, ◌==◌, nat_le, nat_lt, if◌then◌else◌, List, [], ◌∷◌, ◌++◌, take, drop, map, filter, replicate, slice_get, unwrap_or, option_map, Option, None, IsTrue}
+use Rattle.std.specs.Prelude.{ℕ, ◌-◌, Bool, true, false, ◌&&◌, ◌==◌, nat_le, nat_lt, if◌then◌else◌, List, [], ◌∷◌, ◌++◌, take, drop, map, filter, replicate, slice_get, unwrap_or, option_map, codes, Option, None, IsTrue}
 use Rattle.std.specs.List.{flat_map}
 use Rattle.c_lexer.specs.declared.token.Token.{Token}
 use Rattle.c_tree.specs.declared.choice.Put.{Put}
@@ -15,7 +15,6 @@ use Rattle.c_tree.specs.declared.program.VarDef.{VarDef}
 use Rattle.c_tree.specs.declared.program.Program.{Program}
 use Rattle.c_tree.specs.Fill.{puts_at}
 use Rattle.memfix_engine.specs.declared.edit.Change.{Change}
-use Rattle.memfix_engine.specs.FreeText.{free_text}
 
 -- the free is that of the put
 abbrev pub is_of : Option ℕ → ℕ → Expr-F Expr → Bool
@@ -46,7 +45,11 @@ blanks ts f = map blanked (filter (is_within f) ts)
 abbrev pub name_of : List VarDef → ℕ → List ℕ
 name_of vars x = unwrap_or (option_map (λ v. v.name) (slice_get vars x)) []
 
--- ` free(x); ` at an offset
+-- ` free(x); ` with a blank before and behind
+abbrev pub free_text : List ℕ → List ℕ
+free_text x = codes " free(" ++ x ++ codes "); "
+
+-- such a text at an offset
 abbrev pub written : List VarDef → ℕ → Put → Change
 written vars at q = record { start = at; end = at; text = free_text (name_of vars q.var) }
 

@@ -2,7 +2,6 @@ pub mod Access
 pub mod Command
 pub mod Edit
 pub mod Form
-pub mod FreeText
 pub mod Names
 pub mod Notes
 pub mod Outcome
@@ -14,5 +13,4 @@ pub mod Reads
 pub mod Refusal
 pub mod Repair
 pub mod Source
-pub mod Straight
 pub mod Words

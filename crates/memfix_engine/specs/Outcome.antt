@@ -1,5 +1,5 @@
 -- What a call of the command comes to, before anything is written.
-use Rattle.std.specs.Prelude.{◌≡◌, ◌<◌, ◌≤◌, ◌⊎◌, ℕ, Bool, true, false, Option, List, [], ◌∷◌, length, String, string_bytes, bytes_eq, codes, Err}
+use Rattle.std.specs.Prelude.{◌≡◌, ◌+◌, ◌<◌, ◌≤◌, ◌⊎◌, ℕ, Bool, true, false, Option, List, [], ◌∷◌, length, String, string_bytes, bytes_eq, codes, Err}
 use Rattle.std.specs.declared.alloc.Global.{Global}
 use Rattle.c_lexer.specs.declared.refusal.LexRefusal.{LexRefusal}
 use Rattle.c_lexer.specs.declared.refusal.LexRefusal.TheVariants as lex
@@ -35,6 +35,12 @@ pub record IsRepaired (words : List (String Global)) (left left' : Option (List 
   pub input : List ℕ
   pub read : IsRead left left' input
   pub repairs : Repairs input text
+
+-- what came from the source was at most 4,096 bytes more than the limit
+pub record IsWithin (left left' : Option (List ℕ)) : Type 0 where
+  pub piece : List ℕ
+  pub gives : Gives left left' piece
+  pub few : length piece ≤ source_limit + 4096
 
 -- The refusals of a text.
 

@@ -1,7 +1,7 @@
 //! The top call: from words and bytes to a status and bytes.
 ghost use Rattle.std.specs.Prelude.{◌≡◌, ◌≢◌, ◌≤◌, ◌⊎◌, ℕ, List, Some, true, false};
 ghost use Rattle.mf_io.specs.Faults.{Rose};
-ghost use Rattle.memfix_engine.specs.Outcome.{is_repair, IsUsage, IsSourceRefused, IsLimit, IsReadFault, IsMemory, IsRepaired, Due, is_done};
+ghost use Rattle.memfix_engine.specs.Outcome.{is_repair, IsUsage, IsSourceRefused, IsLimit, IsReadFault, IsMemory, IsRepaired, IsWithin, Due, is_done};
 ghost use Rattle.memfix_engine.specs.Command.{Repaired, Said, Cut, IsStatus, IsStatusOf, Written, Finishes};
 
 use crate::outcome::{Outcome, outcome_of};
@@ -73,6 +73,9 @@ pub fn memfix<S: Source, K: Sink, N: Sink>(
     // Other words than `repair` are refused, and the source is not read.
     ensures other_words { is_repair words.now ≡ false → (result ≡ 2) ⊎ ((result ≡ 6) ⊎ (result ≡ 7)) }
     ensures unread { is_repair words.now ≡ false → source.new ≡ source.old }
+
+    // No more than 4,096 bytes past the limit are read, whatever comes of it.
+    ensures within { IsWithin (S.left source.old) (S.left source.new) }
 
     // Where no call fails, the bytes that are left determine the status.
     ensures exact { is_repair words.now ≡ true

@@ -3,8 +3,7 @@
 ghost use Rattle.std.specs.Prelude.{◌≡◌, IfOk, IsTrue, map, filter};
 ghost use Rattle.std.specs.List.{flat_map};
 ghost use Rattle.c_tree.specs.Fill.{IsAscending, ascends};
-ghost use Rattle.memfix_engine.specs.FreeText.{free_text};
-ghost use Rattle.memfix_engine.specs.Edit.{AreInOrder, is_put, are_put, is_within, blanked, blanks, name_of, written, gap_changes, piece_changes, last_changes, block_changes, changes, changed, edited};
+ghost use Rattle.memfix_engine.specs.Edit.{free_text, AreInOrder, is_put, are_put, is_within, blanked, blanks, name_of, written, gap_changes, piece_changes, last_changes, block_changes, changes, changed, edited};
 
 use c_lexer::Token;
 use c_tree::{Block, Choice, Expr, Free, Gap, Piece, Program, Put, VarDef, puts_of};

@@ -1,6 +1,6 @@
 //! What a call of the command comes to, before anything is written.
 ghost use Rattle.std.specs.Prelude.{◌≡◌, ◌≤◌, false};
-ghost use Rattle.memfix_engine.specs.Outcome.{is_repair, ComesTo, ComesOf, outcome_of_refusal};
+ghost use Rattle.memfix_engine.specs.Outcome.{is_repair, ComesTo, ComesOf, IsWithin, outcome_of_refusal};
 ghost use Rattle.memfix_engine.specs.Refusal.{RefusesSource};
 
 use crate::notes::{memory_line, read_fault_line, source_line, too_long_line, usage_line};
@@ -108,6 +108,7 @@ pub(crate) fn outcome_of<S: Source>(alloc: Global, words: &[String], source: &mu
     ensures comes { ComesTo words.now (S.left source.old) (S.left source.new) (S.faults source.old) (S.faults source.new) result }
     ensures usage { is_repair words.now ≡ false → result ≡ Outcome.Usage }
     ensures unread { is_repair words.now ≡ false → source.new ≡ source.old }
+    ensures within { IsWithin (S.left source.old) (S.left source.new) }
     ensures never_falls { S.faults source.old ≤ S.faults source.new }
 {
     if !is_repair(words) {

@@ -1,4 +1,4 @@
-use Rattle.memfix_engine.proofs.CommandLemmas.{source_refused, write_fault, exact}
+use Rattle.memfix_engine.proofs.CommandLemmas.{done_of, source_refused, write_fault, exact}
 use Rattle.memfix_engine.proofs.command.memfix.Goals as goal
 
 pub returns-clause-write_fault : goal.returns-clause-write_fault
@@ -12,3 +12,7 @@ returns-clause-exact g c =
 pub returns-clause-source_refused : goal.returns-clause-source_refused
 returns-clause-source_refused g c =
     source_refused _ _ _ _ _ _ _ _ _ _ _ _ _ _ _ c.outcome_of-outcome.ensures.comes c.finish.ensures.finishes
+
+pub returns-clause-done : goal.returns-clause-done
+returns-clause-done g c =
+    done_of _ _ _ _ _ _ _ _ _ _ _ _ _ _ _ c.outcome_of-outcome.ensures.comes c.finish.ensures.finishes

@@ -11,7 +11,7 @@ use Rattle.memfix_engine.specs.declared.draft.Make.{Make}
 use Rattle.memfix_engine.specs.declared.draft.Store.{Store}
 use Rattle.memfix_engine.specs.declared.draft.Show.{Show}
 use Rattle.memfix_engine.specs.declared.reading.Reading.{Reading}
-use Rattle.memfix_engine.specs.FreeText.{IsName}
+use Rattle.memfix_engine.proofs.FreeText.{IsName}
 use Rattle.memfix_engine.specs.Form.{is_main}
 use Rattle.memfix_engine.specs.Reading.{declared, stored, shown, item_piece, var_of}
 

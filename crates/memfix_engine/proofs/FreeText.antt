@@ -1,4 +1,4 @@
--- Names, and the text and the tokens of a `free` statement.
+-- Names, and the tokens of the text of a `free` statement.
 use Rattle.std.specs.Prelude.{◌≡◌, ℕ, ◌+◌, Bool, true, false, not, ◌&&◌, List, [], ◌∷◌, ◌++◌, length, codes}
 use Rattle.std.specs.List.{list_all}
 use Rattle.c_lexer.specs.declared.token.Token.{Token}
@@ -6,6 +6,7 @@ use Rattle.c_lexer.specs.declared.token.Kind.{Kind}
 use Rattle.c_lexer.specs.declared.token.Kind.TheVariants.{Name, Key, Punct}
 use Rattle.c_lexer.specs.Bytes.{is_digit, is_word_byte}
 use Rattle.c_lexer.specs.Words.{kind_of_word}
+use Rattle.memfix_engine.specs.Edit.{free_text}
 use Rattle.memfix_engine.specs.Words.{key_free, punct_open, punct_close, punct_semicolon}
 
 abbrev pub begins_word : List ℕ → Bool
@@ -17,10 +18,6 @@ pub record IsName (x : List ℕ) : Type 0 where
   pub begins : begins_word x ≡ true
   pub word : list_all is_word_byte x ≡ true
   pub is : kind_of_word x ≡ Name x
-
--- ` free(x); ` with a blank before and behind
-abbrev pub free_text : List ℕ → List ℕ
-free_text x = codes " free(" ++ x ++ codes "); "
 
 -- a token of n bytes at an offset
 abbrev pub token_of : Kind → ℕ → ℕ → Token
