@@ -21,7 +21,7 @@ use Rattle.memfix_engine.proofs.FreeText.{IsName}
 use Rattle.memfix_engine.specs.Form.{IsForm, is_main}
 use Rattle.memfix_engine.specs.Reading.{read_from, nothing_read, whole_of}
 use Rattle.memfix_engine.specs.Reads.{IsFirst, Reads}
-use Rattle.memfix_engine.specs.declared.source.Source.{Source}
+use Rattle.memfix_engine.specs.declared.source.SourceText.{SourceText}
 use Rattle.memfix_engine.specs.Source.{IsSource}
 use Rattle.memfix_engine.specs.Edit.{changed, edited, AreInOrder}
 use Rattle.memfix_engine.specs.Own.{fits, own_puts, is_ascending, are_numbered}
@@ -180,19 +180,19 @@ ascending_range a (suc (suc n)) =
     let next : nat_lt a (a + 1) ≡ true = lt-ltb a (a + 1) (omega arith) in
     rw next (ascending_range (a + 1) (suc n))
 
-scanned_source : (b : List ℕ) (s : Source) → IsSource b s → HasTokens b s.tokens.list
+scanned_source : (b : List ℕ) (s : SourceText) → IsSource b s → HasTokens b s.tokens.list
 scanned_source b s h = record { last_comment = s.tokens.last_comment; reads = h.are.reads }
 
-pub numbered_source : (b : List ℕ) (s : Source) → IsSource b s → are_numbered s.program ≡ true
+pub numbered_source : (b : List ℕ) (s : SourceText) → IsSource b s → are_numbered s.program ≡ true
 numbered_source b s h =
     let first = h.first in
     let found = program_reading first.draft s.program (read_from nothing_read first.draft.steps) first.program in
     let sound = sound_of b s.tokens.list first.draft found.reading (scanned_source b s h) first.form found.found in
     ap are_numbered found.is ∙ ap is_ascending (gaps_numbered first.draft found.reading sound) ∙ ascending_range 0 (length found.reading.pieces + 2)
 
-pub ordered_source : (b : List ℕ) (s : Source) → IsSource b s → AreInOrder s.tokens.list
+pub ordered_source : (b : List ℕ) (s : SourceText) → IsSource b s → AreInOrder s.tokens.list
 ordered_source b s h = Ascend_in_order s.tokens.list (length b) (tokens_ascend b s.tokens.list (scanned_source b s h))
 
 -- the edit of a source repairs it
-pub repaired_source : (b w : List ℕ) (s : Source) → IsSource b s → w ≡ edited b s.tokens.list s.program (choice_of s.program) → Repairs b w
+pub repaired_source : (b w : List ℕ) (s : SourceText) → IsSource b s → w ≡ edited b s.tokens.list s.program (choice_of s.program) → Repairs b w
 repaired_source b w s h e = repaired b w s.tokens.list s.program (scanned_source b s h) h.first e

@@ -78,7 +78,7 @@ fn last_line_len(before: &[u8]) -> usize
 /// The line of an offset and its column, each from 1. A column counts bytes. An offset behind the
 /// text counts as its end.
 #[tactic(auto, using(crate::proofs::NotesLemmas::places))]
-fn place_of(bytes: &[u8], at: usize) -> (usize, usize)
+fn line_and_column(bytes: &[u8], at: usize) -> (usize, usize)
     ensures line { result.0 ≡ line_number bytes.now at }
     ensures column { result.1 ≡ column_number bytes.now at }
 {
@@ -97,7 +97,7 @@ fn place_line(alloc: Global, line: usize, column: usize, text: &str) -> Result<S
 fn line_at(alloc: Global, bytes: &[u8], at: usize, text: &str) -> Result<String, AllocError>
     ensures { IfOk result (λ line. string_bytes line ≡ line_at bytes.now at text.now) }
 {
-    let (line, column) = place_of(bytes, at);
+    let (line, column) = line_and_column(bytes, at);
     place_line(alloc, line, column, text)
 }
 

@@ -1,4 +1,5 @@
-//! The frees that a straight program has itself, and whether they free each object once, after its last use.
+//! The frees that a straight program has itself, and whether they fit: each variable is freed once, not used
+//! behind that, and the frees of each gap ascend.
 ghost use Rattle.std.specs.Prelude.{◌≡◌, ◌+◌, ◌<◌, ◌==◌, ◌∷◌, IfOk, length, take, map};
 ghost use Rattle.std.specs.List.{flat_map, list_all};
 ghost use Rattle.c_tree.specs.declared.program.Block.{out-Block};
@@ -299,7 +300,7 @@ fn is_unused_behind(alloc: Global, program: &Program) -> Result<bool, AllocError
     are_last(alloc, accesses.as_slice(), program.vars.len())
 }
 
-/// Whether the program's own frees free each object once, after its last use.
+/// Whether each variable is freed once and not used behind that, and the frees of each gap ascend.
 pub(crate) fn fits(alloc: Global, program: &Program) -> Result<bool, AllocError>
     ensures { IfOk result (λ b. b ≡ fits program.now) }
 {

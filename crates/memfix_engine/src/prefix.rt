@@ -1,5 +1,5 @@
 //! The place at which tokens stop to be the beginning of the first form.
-ghost use Rattle.std.specs.Prelude.{◌≡◌, ◌<◌, ◌≤◌, true, length, slice_get, Some, None, All, IfOk, IfSome};
+ghost use Rattle.std.specs.Prelude.{◌≡◌, ◌<◌, true, length, slice_get, Some, None, IfOk, IfSome};
 ghost use Rattle.c_tree.specs.declared.program.Program.{Program};
 ghost use Rattle.memfix_engine.specs.Reads.{IsFirst};
 ghost use Rattle.memfix_engine.specs.Prefix.{IsPlace};
@@ -181,7 +181,6 @@ impl Progress {
 pub(crate) fn place_of(alloc: Global, tokens: &[Token], size: usize) -> Result<usize, AllocError>
     ensures value { IfOk result (λ at. at ≡ place_from nothing_begun size tokens.now) }
     ensures place { ((p : Program) → IsFirst tokens.now p → ⊥) → IfOk result (IsPlace size tokens.now) }
-    ensures within { All (λ t. t.start ≤ size) tokens.now → IfOk result (λ at. at ≤ size) }
 {
     let mut progress = Progress::new(alloc);
     for token in tokens {

@@ -10,8 +10,8 @@ pub enum SourceRefusal {
     /// The lexer refuses the text. What it holds is never `Memory`.
     #[error("not read as tokens")]
     Lex(LexRefusal),
-    /// The text is of no form that is built; the offset is that of the first token that fits no such
-    /// form, or the size of the text.
+    /// The text is of no form that is built; the offset is that of the first token such that no text of
+    /// that form begins with the tokens up to it, or the size of the text.
     #[error("not built yet at byte {0}")]
     NotBuilt(usize),
     #[error("out of memory")]

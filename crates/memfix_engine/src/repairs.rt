@@ -10,7 +10,7 @@ ghost use Rattle.memfix_engine.specs.Repair.{Repairs, return_puts, choice_of};
 use crate::edit::edit;
 use crate::own::{fits, own_puts};
 use crate::refusal::{RepairRefusal, SourceRefusal};
-use crate::source::{Source, read_text};
+use crate::source::{SourceText, read_text};
 use c_tree::{Choice, Program, Put};
 use mf_list::Seq;
 use std::alloc::{AllocError, Global};
@@ -68,7 +68,7 @@ pub fn repair(alloc: Global, bytes: &[u8], cert: bool) -> Result<Vec<u8>, Repair
     if bytes.len() > SOURCE_LIMIT {
         return Err(RepairRefusal::TooLong);
     }
-    let Source { tokens, program } = match read_text(alloc, bytes) {
+    let SourceText { tokens, program } = match read_text(alloc, bytes) {
         Ok(source) => source,
         Err(SourceRefusal::Memory) => return Err(RepairRefusal::Memory),
         Err(refusal) => return Err(RepairRefusal::Source(refusal)),

@@ -17,7 +17,7 @@ use std::alloc::{AllocError, Global};
 
 /// The tokens of a text, and the program of the first form that they are.
 #[derive(Debug, Drop)]
-pub(crate) struct Source {
+pub(crate) struct SourceText {
     pub(crate) tokens: Tokens,
     pub(crate) program: Program,
 }
@@ -45,13 +45,13 @@ fn first_program(alloc: Global, tokens: &[Token]) -> Result<Option<Program>, All
 }
 
 /// Reads a text of the first form, and keeps its tokens.
-pub(crate) fn read_text(alloc: Global, bytes: &[u8]) -> Result<Source, SourceRefusal>
+pub(crate) fn read_text(alloc: Global, bytes: &[u8]) -> Result<SourceText, SourceRefusal>
     ensures read { IfOk result (IsSource bytes.now) }
     ensures refused { IfErr result (RefusesSource bytes.now) }
 {
     let tokens = tokens_of(alloc, bytes)?;
     match first_program(alloc, tokens.list.as_slice())? {
-        Some(program) => Ok(Source { tokens, program }),
+        Some(program) => Ok(SourceText { tokens, program }),
         None => {
             let at = place_of(alloc, tokens.list.as_slice(), tokens.size)?;
             Err(SourceRefusal::NotBuilt(at))
@@ -65,6 +65,6 @@ pub fn read_source(alloc: Global, bytes: &[u8]) -> Result<Program, SourceRefusal
     ensures refused { IfErr result (RefusesSource bytes.now) }
     ensures only { IfErr result (λ r. (r ≡ Memory → ⊥) → (p : Program) → Reads bytes.now p → ⊥) }
 {
-    let Source { program, .. } = read_text(alloc, bytes)?;
+    let SourceText { program, .. } = read_text(alloc, bytes)?;
     Ok(program)
 }

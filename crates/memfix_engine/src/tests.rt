@@ -21,9 +21,16 @@ const EARLY: &str = "int main(void) { int *a = malloc(sizeof(int)); free(a); *a 
 const EARLY_REPAIRED: &str =
     "int main(void) { int *a = malloc(sizeof(int));        ; *a = 1;  free(a); return 0; }";
 
-// Its own free fits. An include line and comments stand between the tokens.
+// Its own frees fit. An include line and comments stand between the tokens.
 const OWN: &str =
-    "#include <stdio.h>\nint main(void) { int *cell = malloc(sizeof(int)); /* cell */ free(cell); return 0; } // end";
+    "#include <stdio.h>\nint main(void) { int *p = malloc(sizeof(int)); free(p); /* p */ int *q = malloc(sizeof(int)); free(q); return 0; } // end";
+
+// One of its variables is freed twice. The frees before the return stay.
+const TWICE: &str =
+    "int main(void) { int *p = malloc(sizeof(int)); free(p); int *q = malloc(sizeof(int)); free(p); free(q); return 0; }";
+
+const TWICE_REPAIRED: &str =
+    "int main(void) { int *p = malloc(sizeof(int));        ; int *q = malloc(sizeof(int)); free(p); free(q); return 0; }";
 
 // The words and the source of a call, and the calls of source, output and notes that fail: from 1,
 // or 0 for none.
@@ -82,6 +89,7 @@ fn each_call_has_its_status_and_its_bytes(rt: HostRuntime) -> Result<(), Fail> {
         ("repair", ONE, (0, 0, 0), 0, ONE_REPAIRED, ""),
         ("repair", EARLY, (0, 0, 0), 0, EARLY_REPAIRED, ""),
         ("repair", OWN, (0, 0, 0), 0, OWN, ""),
+        ("repair", TWICE, (0, 0, 0), 0, TWICE_REPAIRED, ""),
         (
             "repair",
             GUARDED,
