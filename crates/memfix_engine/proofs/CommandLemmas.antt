@@ -11,7 +11,7 @@ use Rattle.memfix_engine.specs.Reads.{Reads}
 use Rattle.memfix_engine.specs.Refusal.{RefusesSource, source_limit}
 use Rattle.memfix_engine.specs.Outcome.{IsRepaired, IsSourceRefused, Due, usage, refused, limit, read_fault, memory, is_repair, is_done, status_of, ComesTo}
 use Rattle.memfix_engine.proofs.ReadsLemmas.{read_not_lexical, tokens_not_lexical, read_is_first, refused_not_read, refused_not_deep, deep_not_lexical}
-use Rattle.memfix_engine.specs.Command.{Repaired, Said, Cut, IsStatusOf, Written, Finishes}
+use Rattle.memfix_engine.specs.Command.{Repaired, Noted, Cut, IsStatusOf, Written, Finishes}
 
 -- a write that answers 6 in place of another status was cut
 pub cut_of : (taken taken' : Option (List ℕ)) (faults faults' : ℕ) (piece : List ℕ) (status result : ℕ) (IsDue : List ℕ → Type 0)
@@ -27,7 +27,7 @@ whole_of taken taken' faults faults' piece status result (inr w) none = absurd (
 
 -- a write that answers another status than 6 has written the whole line
 said_of : (taken taken' : Option (List ℕ)) (faults faults' : ℕ) (piece : List ℕ) (status result : ℕ) (Cause : List ℕ → Type 0)
-    → Written taken taken' faults faults' piece status result → (result ≡ 6 → ⊥) → (result ≡ status → Cause piece) → Said taken taken' Cause
+    → Written taken taken' faults faults' piece status result → (result ≡ 6 → ⊥) → (result ≡ status → Cause piece) → Noted taken taken' Cause
 said_of taken taken' faults faults' piece status result Cause (inl w) other cause = record { line = piece; cause = cause w.0; takes = w.1 }
 said_of taken taken' faults faults' piece status result Cause (inr w) other cause = absurd (other w.0)
 
@@ -37,84 +37,84 @@ done_not_refused taken taken' faults faults' piece result (inr w) is = omega (ar
 
 -- status 1 has its line and its cause
 pub source_refused : (words : List (String Global)) (left left' : Option (List ℕ)) (faults faults' : ℕ)
-    (taken taken' : Option (List ℕ)) (missed missed' : ℕ) (said said' : Option (List ℕ)) (silent silent' : ℕ) (status : ℕ) (o : Outcome)
+    (taken taken' : Option (List ℕ)) (output_faults output_faults' : ℕ) (noted noted' : Option (List ℕ)) (notes_faults notes_faults' : ℕ) (status : ℕ) (o : Outcome)
     → ComesTo words left left' faults faults' o
-    → Finishes taken taken' missed missed' said said' silent silent' status o
-    → status ≡ 1 → Said said said' (IsSourceRefused words left left')
-source_refused words left left' faults faults' taken taken' missed missed' said said' silent silent' status (Done text) comes written is =
-    absurd (done_not_refused taken taken' missed missed' text.items status written is)
-source_refused words left left' faults faults' taken taken' missed missed' said said' silent silent' status (SourceRefused line) comes written is =
-    said_of said said' silent silent' _ 1 status (IsSourceRefused words left left') written (λ e. omega (arith, e, is)) (λ e. comes)
-source_refused words left left' faults faults' taken taken' missed missed' said said' silent silent' status Usage comes written is =
-    said_of said said' silent silent' _ 2 status (IsSourceRefused words left left') written (λ e. omega (arith, e, is)) (λ e. absurd (omega (arith, e, is)))
-source_refused words left left' faults faults' taken taken' missed missed' said said' silent silent' status TooLong comes written is =
-    said_of said said' silent silent' _ 4 status (IsSourceRefused words left left') written (λ e. omega (arith, e, is)) (λ e. absurd (omega (arith, e, is)))
-source_refused words left left' faults faults' taken taken' missed missed' said said' silent silent' status (Deep line) comes written is =
-    said_of said said' silent silent' _ 4 status (IsSourceRefused words left left') written (λ e. omega (arith, e, is)) (λ e. absurd (omega (arith, e, is)))
-source_refused words left left' faults faults' taken taken' missed missed' said said' silent silent' status ReadFault comes written is =
-    said_of said said' silent silent' _ 5 status (IsSourceRefused words left left') written (λ e. omega (arith, e, is)) (λ e. absurd (omega (arith, e, is)))
-source_refused words left left' faults faults' taken taken' missed missed' said said' silent silent' status Memory comes written is =
-    said_of said said' silent silent' _ 7 status (IsSourceRefused words left left') written (λ e. omega (arith, e, is)) (λ e. absurd (omega (arith, e, is)))
+    → Finishes taken taken' output_faults output_faults' noted noted' notes_faults notes_faults' status o
+    → status ≡ 1 → Noted noted noted' (IsSourceRefused words left left')
+source_refused words left left' faults faults' taken taken' output_faults output_faults' noted noted' notes_faults notes_faults' status (Done text) comes written is =
+    absurd (done_not_refused taken taken' output_faults output_faults' text.items status written is)
+source_refused words left left' faults faults' taken taken' output_faults output_faults' noted noted' notes_faults notes_faults' status (SourceRefused line) comes written is =
+    said_of noted noted' notes_faults notes_faults' _ 1 status (IsSourceRefused words left left') written (λ e. omega (arith, e, is)) (λ e. comes)
+source_refused words left left' faults faults' taken taken' output_faults output_faults' noted noted' notes_faults notes_faults' status Usage comes written is =
+    said_of noted noted' notes_faults notes_faults' _ 2 status (IsSourceRefused words left left') written (λ e. omega (arith, e, is)) (λ e. absurd (omega (arith, e, is)))
+source_refused words left left' faults faults' taken taken' output_faults output_faults' noted noted' notes_faults notes_faults' status TooLong comes written is =
+    said_of noted noted' notes_faults notes_faults' _ 4 status (IsSourceRefused words left left') written (λ e. omega (arith, e, is)) (λ e. absurd (omega (arith, e, is)))
+source_refused words left left' faults faults' taken taken' output_faults output_faults' noted noted' notes_faults notes_faults' status (Deep line) comes written is =
+    said_of noted noted' notes_faults notes_faults' _ 4 status (IsSourceRefused words left left') written (λ e. omega (arith, e, is)) (λ e. absurd (omega (arith, e, is)))
+source_refused words left left' faults faults' taken taken' output_faults output_faults' noted noted' notes_faults notes_faults' status ReadFault comes written is =
+    said_of noted noted' notes_faults notes_faults' _ 5 status (IsSourceRefused words left left') written (λ e. omega (arith, e, is)) (λ e. absurd (omega (arith, e, is)))
+source_refused words left left' faults faults' taken taken' output_faults output_faults' noted noted' notes_faults notes_faults' status Memory comes written is =
+    said_of noted noted' notes_faults notes_faults' _ 7 status (IsSourceRefused words left left') written (λ e. omega (arith, e, is)) (λ e. absurd (omega (arith, e, is)))
 
 abbrev pub OutputOrLine : {K N : Type 0} (words : List (String Global)) (left left' : Option (List ℕ)) (faults faults' : ℕ)
-    (taken taken' : Option (List ℕ)) (missed missed' : ℕ) (said said' : Option (List ℕ)) (silent silent' : ℕ)
+    (taken taken' : Option (List ℕ)) (output_faults output_faults' : ℕ) (noted noted' : Option (List ℕ)) (notes_faults notes_faults' : ℕ)
     (output output' : K) (notes notes' : N) → Type 0
-OutputOrLine words left left' faults faults' taken taken' missed missed' said said' silent silent' output output' notes notes' =
-    (Cut taken taken' missed missed' (IsRepaired words left left') × (notes' ≡ notes))
-    ⊎ (Cut said said' silent silent' (Due words left left' faults faults') × (output' ≡ output))
+OutputOrLine words left left' faults faults' taken taken' output_faults output_faults' noted noted' notes_faults notes_faults' output output' notes notes' =
+    (Cut taken taken' output_faults output_faults' (IsRepaired words left left') × (notes' ≡ notes))
+    ⊎ (Cut noted noted' notes_faults notes_faults' (Due words left left' faults faults') × (output' ≡ output))
 
 pub write_fault : {K N : Type 0} (words : List (String Global)) (left left' : Option (List ℕ)) (faults faults' : ℕ)
-    (taken taken' : Option (List ℕ)) (missed missed' : ℕ) (said said' : Option (List ℕ)) (silent silent' : ℕ)
+    (taken taken' : Option (List ℕ)) (output_faults output_faults' : ℕ) (noted noted' : Option (List ℕ)) (notes_faults notes_faults' : ℕ)
     (output output' : K) (notes notes' : N) (status : ℕ) (o : Outcome)
     → ComesTo words left left' faults faults' o
-    → Finishes taken taken' missed missed' said said' silent silent' status o
+    → Finishes taken taken' output_faults output_faults' noted noted' notes_faults notes_faults' status o
     → (is_done o ≡ true → notes' ≡ notes)
     → (is_done o ≡ false → output' ≡ output)
     → status ≡ 6
-    → OutputOrLine words left left' faults faults' taken taken' missed missed' said said' silent silent' output output' notes notes'
-write_fault words left left' faults faults' taken taken' missed missed' said said' silent silent' output output' notes notes' status (Done text) comes written quiet untouched is =
-    inl (cut_of taken taken' missed missed' text.items 0 status (IsRepaired words left left') written (λ e. omega (arith, e)) is comes, quiet refl)
-write_fault words left left' faults faults' taken taken' missed missed' said said' silent silent' output output' notes notes' status (SourceRefused line) comes written quiet untouched is =
-    inr (cut_of said said' silent silent' _ 1 status (Due words left left' faults faults') written (λ e. omega (arith, e)) is (refused comes), untouched refl)
-write_fault words left left' faults faults' taken taken' missed missed' said said' silent silent' output output' notes notes' status Usage comes written quiet untouched is =
-    inr (cut_of said said' silent silent' _ 2 status (Due words left left' faults faults') written (λ e. omega (arith, e)) is (usage comes), untouched refl)
-write_fault words left left' faults faults' taken taken' missed missed' said said' silent silent' output output' notes notes' status TooLong comes written quiet untouched is =
-    inr (cut_of said said' silent silent' _ 4 status (Due words left left' faults faults') written (λ e. omega (arith, e)) is (limit (inl comes)), untouched refl)
-write_fault words left left' faults faults' taken taken' missed missed' said said' silent silent' output output' notes notes' status (Deep line) comes written quiet untouched is =
-    inr (cut_of said said' silent silent' _ 4 status (Due words left left' faults faults') written (λ e. omega (arith, e)) is (limit (inr comes)), untouched refl)
-write_fault words left left' faults faults' taken taken' missed missed' said said' silent silent' output output' notes notes' status ReadFault comes written quiet untouched is =
-    inr (cut_of said said' silent silent' _ 5 status (Due words left left' faults faults') written (λ e. omega (arith, e)) is (read_fault comes), untouched refl)
-write_fault words left left' faults faults' taken taken' missed missed' said said' silent silent' output output' notes notes' status Memory comes written quiet untouched is =
-    inr (cut_of said said' silent silent' _ 7 status (Due words left left' faults faults') written (λ e. omega (arith, e)) is (memory comes), untouched refl)
+    → OutputOrLine words left left' faults faults' taken taken' output_faults output_faults' noted noted' notes_faults notes_faults' output output' notes notes'
+write_fault words left left' faults faults' taken taken' output_faults output_faults' noted noted' notes_faults notes_faults' output output' notes notes' status (Done text) comes written quiet untouched is =
+    inl (cut_of taken taken' output_faults output_faults' text.items 0 status (IsRepaired words left left') written (λ e. omega (arith, e)) is comes, quiet refl)
+write_fault words left left' faults faults' taken taken' output_faults output_faults' noted noted' notes_faults notes_faults' output output' notes notes' status (SourceRefused line) comes written quiet untouched is =
+    inr (cut_of noted noted' notes_faults notes_faults' _ 1 status (Due words left left' faults faults') written (λ e. omega (arith, e)) is (refused comes), untouched refl)
+write_fault words left left' faults faults' taken taken' output_faults output_faults' noted noted' notes_faults notes_faults' output output' notes notes' status Usage comes written quiet untouched is =
+    inr (cut_of noted noted' notes_faults notes_faults' _ 2 status (Due words left left' faults faults') written (λ e. omega (arith, e)) is (usage comes), untouched refl)
+write_fault words left left' faults faults' taken taken' output_faults output_faults' noted noted' notes_faults notes_faults' output output' notes notes' status TooLong comes written quiet untouched is =
+    inr (cut_of noted noted' notes_faults notes_faults' _ 4 status (Due words left left' faults faults') written (λ e. omega (arith, e)) is (limit (inl comes)), untouched refl)
+write_fault words left left' faults faults' taken taken' output_faults output_faults' noted noted' notes_faults notes_faults' output output' notes notes' status (Deep line) comes written quiet untouched is =
+    inr (cut_of noted noted' notes_faults notes_faults' _ 4 status (Due words left left' faults faults') written (λ e. omega (arith, e)) is (limit (inr comes)), untouched refl)
+write_fault words left left' faults faults' taken taken' output_faults output_faults' noted noted' notes_faults notes_faults' output output' notes notes' status ReadFault comes written quiet untouched is =
+    inr (cut_of noted noted' notes_faults notes_faults' _ 5 status (Due words left left' faults faults') written (λ e. omega (arith, e)) is (read_fault comes), untouched refl)
+write_fault words left left' faults faults' taken taken' output_faults output_faults' noted noted' notes_faults notes_faults' output output' notes notes' status Memory comes written quiet untouched is =
+    inr (cut_of noted noted' notes_faults notes_faults' _ 7 status (Due words left left' faults faults') written (λ e. omega (arith, e)) is (memory comes), untouched refl)
 
 -- a line was written, so the status is not 0
-not_done : (said said' : Option (List ℕ)) (silent silent' : ℕ) (line : List ℕ) (due status : ℕ)
-    → Written said said' silent silent' line due status → (due ≡ 0 → ⊥) → status ≡ 0 → ⊥
-not_done said said' silent silent' line due status (inl w) other is = other (sym w.0 ∙ is)
-not_done said said' silent silent' line due status (inr w) other is = let bad : ⊥ = omega (arith, w.0, is) in bad
+not_done : (noted noted' : Option (List ℕ)) (notes_faults notes_faults' : ℕ) (line : List ℕ) (due status : ℕ)
+    → Written noted noted' notes_faults notes_faults' line due status → (due ≡ 0 → ⊥) → status ≡ 0 → ⊥
+not_done noted noted' notes_faults notes_faults' line due status (inl w) other is = other (sym w.0 ∙ is)
+not_done noted noted' notes_faults notes_faults' line due status (inr w) other is = let bad : ⊥ = omega (arith, w.0, is) in bad
 
 -- status 0 comes with the repaired text alone
 pub done_of : (words : List (String Global)) (left left' : Option (List ℕ)) (faults faults' : ℕ)
-    (taken taken' : Option (List ℕ)) (missed missed' : ℕ) (said said' : Option (List ℕ)) (silent silent' : ℕ) (status : ℕ) (o : Outcome)
+    (taken taken' : Option (List ℕ)) (output_faults output_faults' : ℕ) (noted noted' : Option (List ℕ)) (notes_faults notes_faults' : ℕ) (status : ℕ) (o : Outcome)
     → ComesTo words left left' faults faults' o
-    → Finishes taken taken' missed missed' said said' silent silent' status o
+    → Finishes taken taken' output_faults output_faults' noted noted' notes_faults notes_faults' status o
     → status ≡ 0 → Repaired words left left' taken taken'
-done_of words left left' faults faults' taken taken' missed missed' said said' silent silent' status (Done text) comes (inl w) is =
+done_of words left left' faults faults' taken taken' output_faults output_faults' noted noted' notes_faults notes_faults' status (Done text) comes (inl w) is =
     record { text = text.items; repaired = comes; takes = w.1 }
-done_of words left left' faults faults' taken taken' missed missed' said said' silent silent' status (Done text) comes (inr w) is =
+done_of words left left' faults faults' taken taken' output_faults output_faults' noted noted' notes_faults notes_faults' status (Done text) comes (inr w) is =
     let bad : ⊥ = omega (arith, w.0, is) in absurd bad
-done_of words left left' faults faults' taken taken' missed missed' said said' silent silent' status (SourceRefused line) comes written is =
-    absurd (not_done said said' silent silent' _ 1 status written (λ e. omega (arith, e)) is)
-done_of words left left' faults faults' taken taken' missed missed' said said' silent silent' status Usage comes written is =
-    absurd (not_done said said' silent silent' _ 2 status written (λ e. omega (arith, e)) is)
-done_of words left left' faults faults' taken taken' missed missed' said said' silent silent' status TooLong comes written is =
-    absurd (not_done said said' silent silent' _ 4 status written (λ e. omega (arith, e)) is)
-done_of words left left' faults faults' taken taken' missed missed' said said' silent silent' status (Deep line) comes written is =
-    absurd (not_done said said' silent silent' _ 4 status written (λ e. omega (arith, e)) is)
-done_of words left left' faults faults' taken taken' missed missed' said said' silent silent' status ReadFault comes written is =
-    absurd (not_done said said' silent silent' _ 5 status written (λ e. omega (arith, e)) is)
-done_of words left left' faults faults' taken taken' missed missed' said said' silent silent' status Memory comes written is =
-    absurd (not_done said said' silent silent' _ 7 status written (λ e. omega (arith, e)) is)
+done_of words left left' faults faults' taken taken' output_faults output_faults' noted noted' notes_faults notes_faults' status (SourceRefused line) comes written is =
+    absurd (not_done noted noted' notes_faults notes_faults' _ 1 status written (λ e. omega (arith, e)) is)
+done_of words left left' faults faults' taken taken' output_faults output_faults' noted noted' notes_faults notes_faults' status Usage comes written is =
+    absurd (not_done noted noted' notes_faults notes_faults' _ 2 status written (λ e. omega (arith, e)) is)
+done_of words left left' faults faults' taken taken' output_faults output_faults' noted noted' notes_faults notes_faults' status TooLong comes written is =
+    absurd (not_done noted noted' notes_faults notes_faults' _ 4 status written (λ e. omega (arith, e)) is)
+done_of words left left' faults faults' taken taken' output_faults output_faults' noted noted' notes_faults notes_faults' status (Deep line) comes written is =
+    absurd (not_done noted noted' notes_faults notes_faults' _ 4 status written (λ e. omega (arith, e)) is)
+done_of words left left' faults faults' taken taken' output_faults output_faults' noted noted' notes_faults notes_faults' status ReadFault comes written is =
+    absurd (not_done noted noted' notes_faults notes_faults' _ 5 status written (λ e. omega (arith, e)) is)
+done_of words left left' faults faults' taken taken' output_faults output_faults' noted noted' notes_faults notes_faults' status Memory comes written is =
+    absurd (not_done noted noted' notes_faults notes_faults' _ 7 status written (λ e. omega (arith, e)) is)
 
 -- the status of an outcome that comes of these bytes
 pub status_is : (words : List (String Global)) (bytes : List ℕ) (left' : Option (List ℕ)) (faults faults' : ℕ) (status : ℕ) (o : Outcome)
@@ -177,32 +177,32 @@ status_is words bytes left' faults faults' status Memory comes is asked none =
     }
 
 -- without a fault, the status is that of the outcome
-pub status_of_outcome : (taken taken' : Option (List ℕ)) (missed missed' : ℕ) (said said' : Option (List ℕ)) (silent silent' : ℕ) (status : ℕ) (o : Outcome)
-    → Finishes taken taken' missed missed' said said' silent silent' status o
-    → (Rose missed missed' → ⊥) → (Rose silent silent' → ⊥) → status ≡ status_of o
-status_of_outcome taken taken' missed missed' said said' silent silent' status (Done text) written heard spoken =
-    whole_of taken taken' missed missed' text.items 0 status written heard
-status_of_outcome taken taken' missed missed' said said' silent silent' status (SourceRefused line) written heard spoken =
-    whole_of said said' silent silent' _ 1 status written spoken
-status_of_outcome taken taken' missed missed' said said' silent silent' status Usage written heard spoken =
-    whole_of said said' silent silent' _ 2 status written spoken
-status_of_outcome taken taken' missed missed' said said' silent silent' status TooLong written heard spoken =
-    whole_of said said' silent silent' _ 4 status written spoken
-status_of_outcome taken taken' missed missed' said said' silent silent' status (Deep line) written heard spoken =
-    whole_of said said' silent silent' _ 4 status written spoken
-status_of_outcome taken taken' missed missed' said said' silent silent' status ReadFault written heard spoken =
-    whole_of said said' silent silent' _ 5 status written spoken
-status_of_outcome taken taken' missed missed' said said' silent silent' status Memory written heard spoken =
-    whole_of said said' silent silent' _ 7 status written spoken
+pub status_of_outcome : (taken taken' : Option (List ℕ)) (output_faults output_faults' : ℕ) (noted noted' : Option (List ℕ)) (notes_faults notes_faults' : ℕ) (status : ℕ) (o : Outcome)
+    → Finishes taken taken' output_faults output_faults' noted noted' notes_faults notes_faults' status o
+    → (Rose output_faults output_faults' → ⊥) → (Rose notes_faults notes_faults' → ⊥) → status ≡ status_of o
+status_of_outcome taken taken' output_faults output_faults' noted noted' notes_faults notes_faults' status (Done text) written heard spoken =
+    whole_of taken taken' output_faults output_faults' text.items 0 status written heard
+status_of_outcome taken taken' output_faults output_faults' noted noted' notes_faults notes_faults' status (SourceRefused line) written heard spoken =
+    whole_of noted noted' notes_faults notes_faults' _ 1 status written spoken
+status_of_outcome taken taken' output_faults output_faults' noted noted' notes_faults notes_faults' status Usage written heard spoken =
+    whole_of noted noted' notes_faults notes_faults' _ 2 status written spoken
+status_of_outcome taken taken' output_faults output_faults' noted noted' notes_faults notes_faults' status TooLong written heard spoken =
+    whole_of noted noted' notes_faults notes_faults' _ 4 status written spoken
+status_of_outcome taken taken' output_faults output_faults' noted noted' notes_faults notes_faults' status (Deep line) written heard spoken =
+    whole_of noted noted' notes_faults notes_faults' _ 4 status written spoken
+status_of_outcome taken taken' output_faults output_faults' noted noted' notes_faults notes_faults' status ReadFault written heard spoken =
+    whole_of noted noted' notes_faults notes_faults' _ 5 status written spoken
+status_of_outcome taken taken' output_faults output_faults' noted noted' notes_faults notes_faults' status Memory written heard spoken =
+    whole_of noted noted' notes_faults notes_faults' _ 7 status written spoken
 
 pub exact : (words : List (String Global)) (left left' : Option (List ℕ)) (faults faults' : ℕ)
-    (taken taken' : Option (List ℕ)) (missed missed' : ℕ) (said said' : Option (List ℕ)) (silent silent' : ℕ) (status : ℕ) (o : Outcome)
+    (taken taken' : Option (List ℕ)) (output_faults output_faults' : ℕ) (noted noted' : Option (List ℕ)) (notes_faults notes_faults' : ℕ) (status : ℕ) (o : Outcome)
     → ComesTo words left left' faults faults' o
-    → Finishes taken taken' missed missed' said said' silent silent' status o
-    → is_repair words ≡ true → (Rose faults faults' → ⊥) → (Rose missed missed' → ⊥) → (Rose silent silent' → ⊥)
+    → Finishes taken taken' output_faults output_faults' noted noted' notes_faults notes_faults' status o
+    → is_repair words ≡ true → (Rose faults faults' → ⊥) → (Rose output_faults output_faults' → ⊥) → (Rose notes_faults notes_faults' → ⊥)
     → (bytes : List ℕ) → left ≡ Some bytes → IsStatusOf bytes status
-exact words left left' faults faults' taken taken' missed missed' said said' silent silent' status o comes written asked none heard spoken bytes told =
+exact words left left' faults faults' taken taken' output_faults output_faults' noted noted' notes_faults notes_faults' status o comes written asked none heard spoken bytes told =
     status_is words bytes left' faults faults' status o
     (subst (λ l. ComesTo words l left' faults faults' o) told comes)
-    (status_of_outcome taken taken' missed missed' said said' silent silent' status o written heard spoken)
+    (status_of_outcome taken taken' output_faults output_faults' noted noted' notes_faults notes_faults' status o written heard spoken)
     asked none

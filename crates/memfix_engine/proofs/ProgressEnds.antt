@@ -180,8 +180,8 @@ record Fills (new : Bool) (names : List (List ℕ)) (ws : List Want) : Type 0 wh
   last : List (List ℕ)
   filled : fill new names ws tokens ≡ Some last
 
-abbrev token_of : Kind → Token
-token_of k = record { kind = k; start = 0; end = 0 }
+abbrev bare_token : Kind → Token
+bare_token k = record { kind = k; start = 0; end = 0 }
 
 fills_of : (new : Bool) (names : List (List ℕ)) (ws : List Want) → Ready new names ws → Fills new names ws
 fills_of new names [] r = record { tokens = []; last = names; filled = refl }
@@ -189,7 +189,7 @@ fills_of new names (w ∷ ws) r =
     let k : Kind = sample new names w in
     let a : admits new names w k ≡ true = sample_admitted new names w ws r in
     let f : Fills new (names_behind w new k names) ws = fills_of new (names_behind w new k names) ws (want_ready new names w ws k r a) in
-    record { tokens = token_of k ∷ f.tokens; last = f.last; filled = rw a f.filled }
+    record { tokens = bare_token k ∷ f.tokens; last = f.last; filled = rw a f.filled }
 
 -- tokens that complete what has come
 pub record Ending (s : Progress) : Type 0 where
@@ -202,7 +202,7 @@ record EndingIn (names : List (List ℕ)) (p : Part) (ws : List Want) : Type 0 w
 
 -- return 0 ; }
 abbrev return_tokens : List Token
-return_tokens = token_of (kind.Key KEY_RETURN) ∷ token_of (kind.Number (pos 0)) ∷ token_of (kind.Punct PUNCT_SEMICOLON) ∷ token_of (kind.Punct PUNCT_CLOSE_BRACE) ∷ []
+return_tokens = bare_token (kind.Key KEY_RETURN) ∷ bare_token (kind.Number (pos 0)) ∷ bare_token (kind.Punct PUNCT_SEMICOLON) ∷ bare_token (kind.Punct PUNCT_CLOSE_BRACE) ∷ []
 
 goes_on : (new : Bool) (names : List (List ℕ)) (ws : List Want) (f : Fills new names ws) → GoesOn new names ws (f.tokens ++ return_tokens)
 goes_on new names ws f = record {

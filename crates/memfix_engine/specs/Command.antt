@@ -22,7 +22,7 @@ pub record Repaired (words : List (String Global)) (left left' taken taken' : Op
   pub takes : Takes taken taken' text
 
 -- a line was appended, and this is its cause
-pub record Said (taken taken' : Option (List ℕ)) (Cause : List ℕ → Type 0) : Type 0 where
+pub record Noted (taken taken' : Option (List ℕ)) (Cause : List ℕ → Type 0) : Type 0 where
   pub line : List ℕ
   pub cause : Cause line
   pub takes : Takes taken taken' line
@@ -54,8 +54,8 @@ Written taken taken' faults faults' piece status result =
     ⊎ ((result ≡ 6) × TakesPart taken taken' piece × Rose faults faults')
 
 -- what is due was written: a repaired text to the output, a line to notes
-abbrev pub Finishes : (taken taken' : Option (List ℕ)) (faults faults' : ℕ) (said said' : Option (List ℕ)) (missed missed' : ℕ) (status : ℕ) → Outcome → Type 0
-Finishes taken taken' faults faults' said said' missed missed' status (outcome.Done text) =
+abbrev pub Finishes : (taken taken' : Option (List ℕ)) (faults faults' : ℕ) (noted noted' : Option (List ℕ)) (notes_faults notes_faults' : ℕ) (status : ℕ) → Outcome → Type 0
+Finishes taken taken' faults faults' noted noted' notes_faults notes_faults' status (outcome.Done text) =
     Written taken taken' faults faults' text.items 0 status
-Finishes taken taken' faults faults' said said' missed missed' status o =
-    Written said said' missed missed' (notes_of o) (status_of o) status
+Finishes taken taken' faults faults' noted noted' notes_faults notes_faults' status o =
+    Written noted noted' notes_faults notes_faults' (notes_of o) (status_of o) status

@@ -2,7 +2,7 @@
 ghost use Rattle.std.specs.Prelude.{◌≡◌, ◌≢◌, ◌≤◌, ◌⊎◌, ℕ, List, Some, true, false};
 ghost use Rattle.mf_io.specs.Faults.{Rose};
 ghost use Rattle.memfix_engine.specs.Outcome.{is_repair, IsUsage, IsSourceRefused, IsLimit, IsReadFault, IsMemory, IsRepaired, IsWithin, Due, is_done};
-ghost use Rattle.memfix_engine.specs.Command.{Repaired, Said, Cut, IsStatus, IsStatusOf, Written, Finishes};
+ghost use Rattle.memfix_engine.specs.Command.{Repaired, Noted, Cut, IsStatus, IsStatusOf, Written, Finishes};
 
 use crate::outcome::{Outcome, outcome_of};
 use mf_io::{Sink, Source, write_all};
@@ -50,14 +50,14 @@ pub fn memfix<S: Source, K: Sink, N: Sink>(
     ensures quiet { result ≡ 0 → notes.new ≡ notes.old }
 
     // Each other status but 6 appends its line to notes, and has its cause.
-    ensures source_refused { result ≡ 1 → Said (N.taken notes.old) (N.taken notes.new)
+    ensures source_refused { result ≡ 1 → Noted (N.taken notes.old) (N.taken notes.new)
         (IsSourceRefused words.now (S.left source.old) (S.left source.new)) }
-    ensures usage { result ≡ 2 → Said (N.taken notes.old) (N.taken notes.new) (IsUsage words.now) }
-    ensures limit { result ≡ 4 → Said (N.taken notes.old) (N.taken notes.new)
+    ensures usage { result ≡ 2 → Noted (N.taken notes.old) (N.taken notes.new) (IsUsage words.now) }
+    ensures limit { result ≡ 4 → Noted (N.taken notes.old) (N.taken notes.new)
         (IsLimit words.now (S.left source.old) (S.left source.new)) }
-    ensures read_fault { result ≡ 5 → Said (N.taken notes.old) (N.taken notes.new)
+    ensures read_fault { result ≡ 5 → Noted (N.taken notes.old) (N.taken notes.new)
         (IsReadFault words.now (S.left source.old) (S.left source.new) (S.faults source.old) (S.faults source.new)) }
-    ensures memory { result ≡ 7 → Said (N.taken notes.old) (N.taken notes.new) IsMemory }
+    ensures memory { result ≡ 7 → Noted (N.taken notes.old) (N.taken notes.new) IsMemory }
     ensures untouched { result ≢ 0 → result ≢ 6 → output.new ≡ output.old }
 
     // Status 6: a write failed, and nothing is written anywhere after it.

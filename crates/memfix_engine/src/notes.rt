@@ -6,6 +6,8 @@ use crate::refusal::SourceRefusal;
 use c_lexer::LexRefusal;
 use std::alloc::{AllocError, Global};
 
+const MEMORY_LINE: &str = "memfix: out of memory\n";
+
 /// The texts of the lexer's refused rows.
 const ROW_TEXTS: [&str; 59] = [
     "_Bool",
@@ -137,7 +139,7 @@ fn lex_line(alloc: Global, bytes: &[u8], refusal: LexRefusal) -> Result<String, 
             line_at(alloc, bytes, at, text.as_str())
         }
         LexRefusal::Depth(at) => line_at(alloc, bytes, at, "limit: more than 256 levels"),
-        LexRefusal::Memory => String::from_str(alloc, "memfix: out of memory\n"),
+        LexRefusal::Memory => String::from_str(alloc, MEMORY_LINE),
     }
 }
 
@@ -152,7 +154,7 @@ pub(crate) fn source_line(
     match refusal {
         SourceRefusal::Lex(refusal) => lex_line(alloc, bytes, refusal),
         SourceRefusal::NotBuilt(at) => line_at(alloc, bytes, at, "not built yet"),
-        SourceRefusal::Memory => String::from_str(alloc, "memfix: out of memory\n"),
+        SourceRefusal::Memory => String::from_str(alloc, MEMORY_LINE),
     }
 }
 
@@ -177,5 +179,5 @@ pub(crate) fn read_fault_line() -> &'static [u8]
 pub(crate) fn memory_line() -> &'static [u8]
     ensures { result.now ≡ memory_line }
 {
-    b"memfix: out of memory\n"
+    MEMORY_LINE.as_bytes()
 }
