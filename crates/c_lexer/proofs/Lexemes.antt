@@ -137,9 +137,9 @@ run_passes test (x ∷ xs) =
     (λ fails. ap (λ n. list_all test (take n (x ∷ xs))) (cond-false (test x) (1 + prefix_len test xs) 0 fails))
     (cases_Bool (test x))
 
-name_is : (refused key : Option ℕ) (u w : List ℕ) → or_name (or_else (as_kind kind.Refused refused) (as_kind kind.Key key)) u ≡ kind.Name w → u ≡ w
-name_is (Some row) key u w e = cc
-name_is None (Some number) u w e = cc
+name_is : (key refused : Option ℕ) (u w : List ℕ) → or_name (or_else (as_kind kind.Key key) (as_kind kind.Refused refused)) u ≡ kind.Name w → u ≡ w
+name_is (Some number) refused u w e = cc
+name_is None (Some row) u w e = cc
 name_is None None u w e = cc
 
 word_spelling : (x : ℕ) (r w : List ℕ) (n : ℕ) → is_digit x ≡ false → is_word_byte x ≡ true → piece.Lexeme (kind.Name w) n ≡ word_piece (x ∷ r) → Spelling w
@@ -147,7 +147,7 @@ word_spelling x r w n no_digit word_byte is =
     let k = prefix_len is_word_byte (x ∷ r) in
     let u = take k (x ∷ r) in
     let named : kind_of_word u ≡ kind.Name w = cc in
-    let same : u ≡ w = name_is (refused_word u) (key_word u) u w named in
+    let same : u ≡ w = name_is (key_word u) (refused_word u) u w named in
     let len : k ≡ suc (prefix_len is_word_byte r) = cond-true (is_word_byte x) (1 + prefix_len is_word_byte r) 0 word_byte ∙ omega arith in
     record {
       first = x;

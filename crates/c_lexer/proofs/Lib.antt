@@ -13,6 +13,7 @@ pub mod UpTo
 pub mod Fresh
 pub mod Lexemes
 pub mod Edits
+pub mod Order
 pub mod Total
 pub mod Answered
 mod Examples

@@ -1,5 +1,5 @@
 -- The tables of words and punctuators, each ascending by bytes, and the numbers of their places.
-use Rattle.std.specs.Prelude.{ℕ, ◌+◌, List, [], ◌∷◌, Option, Some, None, if◌then◌else◌, nat_eq, codes}
+use Rattle.std.specs.Prelude.{ℕ, ◌+◌, ◌||◌, ◌==◌, List, [], ◌∷◌, Option, Some, None, if◌then◌else◌, nat_eq, codes}
 use Rattle.std.specs.Cmp.Lexicographic.{pointwise}
 use Rattle.c_lexer.specs.declared.token.Kind.{Kind}
 use Rattle.c_lexer.specs.declared.token.Kind.TheVariants as kind
@@ -74,10 +74,23 @@ as_kind make (Some number) = Some (make number)
 abbrev pub punctuator_kind : List ℕ → Option Kind
 punctuator_kind word = or_else (as_kind kind.Punct (punctuator word)) (as_kind kind.Refused (refused_punctuator word))
 
--- the kind of a word (C99 6.4.1, 6.4.2): refused, a key word, or a name
+-- a bound on the bytes of the punctuators that begin with this byte
+abbrev pub most_from : ℕ → ℕ
+most_from b =
+    if b == 40 || b == 41 || b == 44 || b == 59 || b == 63 || b == 91 || b == 93 || b == 123 || b == 125 || b == 126 then 1
+    else (if b == 46 || b == 60 || b == 62 then 3
+    else (if b == 37 then 4
+    else 2))
+
+-- and of those that begin as the text does
+abbrev pub most_bytes : List ℕ → ℕ
+most_bytes [] = 0
+most_bytes (b ∷ rest) = most_from b
+
+-- the kind of a word (C99 6.4.1, 6.4.2): a key word, refused, or a name
 abbrev pub or_name : Option Kind → List ℕ → Kind
 or_name (Some kind) word = kind
 or_name None word = kind.Name word
 
 abbrev pub kind_of_word : List ℕ → Kind
-kind_of_word word = or_name (or_else (as_kind kind.Refused (refused_word word)) (as_kind kind.Key (key_word word))) word
+kind_of_word word = or_name (or_else (as_kind kind.Key (key_word word)) (as_kind kind.Refused (refused_word word))) word

@@ -1,3 +1,4 @@
+// Classes of bytes, and where lines end and go on.
 ghost use Rattle.std.specs.Prelude.{◌≡◌, ◌<◌, ◌≤◌, length, drop};
 ghost use Rattle.std.specs.List.{prefix_len};
 ghost use Rattle.c_lexer.specs.Bytes.{is_blank, is_digit, is_word_byte, is_number_byte, is_space, line_end_next, line_or_text_end_next, text_end_next, continues, continues_in_comment, star_continues, stops, begins_include, class_of};

@@ -1,4 +1,5 @@
-ghost use Rattle.std.specs.Prelude.{◌≡◌, ◌+◌, ◌<◌, ◌^◌, IfOk, OnOk, Some, None};
+// The reading of a text, piece by piece.
+ghost use Rattle.std.specs.Prelude.{◌≡◌, ◌+◌, ◌<◌, ◌^◌, IfOk, OnOk, Some, None, []};
 ghost use Rattle.c_lexer.specs.Bytes.{class_of};
 ghost use Rattle.c_lexer.specs.Opening.{Fits};
 ghost use Rattle.c_lexer.specs.Pieces.{IsPiece};
@@ -12,6 +13,7 @@ use crate::piece::{Class, Fault, Piece};
 use crate::punctuators::punctuator;
 use crate::quotes::{character, text};
 use crate::reading::Reading;
+use crate::recent::Recent;
 use crate::spans::{block_comment, include_line, line_comment, word};
 use mf_list::{Memory, Seq};
 use std::alloc::Global;
@@ -27,7 +29,12 @@ pub struct Front {
 }
 
 /// The piece at the front of a text.
-pub fn piece_at(alloc: Global, fresh: bool, rest: &[u8]) -> Result<Piece, Memory>
+pub fn piece_at(
+    alloc: Global,
+    recent: &mut Recent,
+    fresh: bool,
+    rest: &[u8],
+) -> Result<Piece, Memory>
     ensures piece { IfOk result (λ p. IsPiece (class_of fresh rest.now) rest.now p) }
     ensures fits { IfOk result (λ p. Fits p rest.now) }
 {
@@ -37,9 +44,9 @@ pub fn piece_at(alloc: Global, fresh: bool, rest: &[u8]) -> Result<Piece, Memory
         Class::LineComment => Ok(line_comment(rest)),
         Class::BlockComment => Ok(block_comment(rest)),
         Class::IncludeLine => Ok(include_line(rest)),
-        Class::Word => word(alloc, rest),
+        Class::Word => word(alloc, recent, rest),
         Class::Digits => Ok(number(rest)),
-        Class::Text => text(alloc, rest),
+        Class::Text => text(alloc, recent, rest),
         Class::Character => character(alloc, rest),
         Class::Other => Ok(punctuator(rest)),
     }
@@ -97,19 +104,30 @@ impl Front {
     }
 }
 
+/// Room for so many tokens at once, so that the list needn't move while it grows; where it can't be had, none.
+fn room_for(alloc: Global, count: usize) -> Seq<Token>
+    ensures { result ≡ [] }
+{
+    match Vec::with_capacity(alloc, count) {
+        Ok(items) => Seq::from_vec(items),
+        Err(_) => Seq::new(alloc),
+    }
+}
+
 /// The tokens of a text, up to its end or its first lexical fault.
 pub fn scan(alloc: Global, bytes: &[u8]) -> Result<Reading, Memory>
     ensures { IfOk result (λ r. Reads bytes.now r) }
 {
+    let mut recent = Recent::new(alloc, bytes.len())?;
     let mut front = Front {
         fresh: true,
         at: 0,
-        tokens: Seq::new(alloc),
+        tokens: room_for(alloc, bytes.len()),
         last_comment: None,
     };
     loop {
         let rest = &bytes[front.at..];
-        match piece_at(alloc, front.fresh, rest)? {
+        match piece_at(alloc, &mut recent, front.fresh, rest)? {
             Piece::End => return Ok(front.reading(None)),
             Piece::Bad(fault, n) => {
                 let at = front.at + n;

@@ -11,10 +11,9 @@ mod piece;
 mod punctuators;
 mod quotes;
 mod reading;
+mod recent;
 mod refusal;
 mod spans;
-#[cfg(test)]
-mod tests;
 mod token;
 mod words;
 

@@ -1,3 +1,4 @@
+// What each token changes of the nest.
 ghost use Rattle.std.specs.Prelude.{◌≡◌, codes};
 ghost use Rattle.c_lexer.specs.Nest.{is_key, is_word, next_is, punctuator_mark, key_mark, mark_of};
 

@@ -1,3 +1,4 @@
+// The measure of nesting, and the first token that is too deep.
 ghost use Rattle.std.specs.Prelude.{◌≡◌, ◌+◌, ◌<◌, ◌≤◌, ◌^◌, false, sum, IfOk, OnOk, IsTrue};
 ghost use Rattle.c_lexer.specs.Nest.{Nesting, at_first, nest, without_last, with_last, changed, deepest, first_deep};
 

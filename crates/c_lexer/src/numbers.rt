@@ -1,3 +1,4 @@
+// Numbers (C99 6.4.4.1).
 ghost use Rattle.std.specs.Prelude.{◌≡◌, ◌<◌, ◌≤◌, length};
 ghost use Rattle.std.specs.List.{prefix_len, list_all};
 ghost use Rattle.c_lexer.specs.Bytes.{is_digit, is_number_byte};

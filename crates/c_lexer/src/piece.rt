@@ -1,3 +1,4 @@
+// What stands at the front of a text.
 use crate::Kind;
 
 /// The first lexical fault of a text.

@@ -1,3 +1,4 @@
+// Strings and character constants (C99 6.4.4.4, 6.4.5).
 ghost use Rattle.std.specs.Prelude.{◌≡◌, ◌<◌, ◌≤◌, length, IfOk};
 ghost use Rattle.c_lexer.specs.Opening.{Fits, Holds, Leaves};
 ghost use Rattle.c_lexer.specs.Pieces.{escaped, allowed, is_zero_escape, escape_next, next_of, one_character, quote_byte, unclosed, Ends, text_piece, character_piece, IsQuoted, Spells};
@@ -5,6 +6,7 @@ ghost use Rattle.c_lexer.specs.declared.piece.Quote.TheVariants.{Double, Single}
 
 use crate::Kind;
 use crate::piece::{Fault, Next, Piece, Quote};
+use crate::recent::Recent;
 use mf_list::{Memory, Seq};
 use std::alloc::Global;
 
@@ -136,14 +138,17 @@ fn unclosed(len: usize, end: Next) -> Piece
 }
 
 /// A string.
-pub fn text(alloc: Global, rest: &[u8]) -> Result<Piece, Memory>
+pub fn text(alloc: Global, recent: &mut Recent, rest: &[u8]) -> Result<Piece, Memory>
     requires { 1 ≤ length rest.now }
     ensures piece { IfOk result (λ p. IsQuoted Double text_piece rest.now p) }
     ensures fits { IfOk result (λ p. Fits p rest.now) }
 {
     let Quoted { values, len, end } = between_quotes(alloc, Quote::Double, &rest[1..])?;
     match end {
-        Next::Close => Ok(Piece::Lexeme(Kind::Text(values), len + 2)),
+        Next::Close => {
+            let bytes = recent.string(alloc, values)?;
+            Ok(Piece::Lexeme(Kind::Text(bytes), len + 2))
+        }
         end => Ok(unclosed(len, end)),
     }
 }

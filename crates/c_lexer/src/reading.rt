@@ -1,3 +1,4 @@
+// The tokens of a text as far as it is read.
 use crate::Token;
 use crate::piece::Fault;
 use mf_list::Seq;

@@ -1,3 +1,4 @@
+// Why a text has no tokens that can be used.
 ghost use Rattle.std.specs.Prelude.{◌≡◌};
 
 use mf_list::Memory;

@@ -1,3 +1,4 @@
+// Comments, include lines and words.
 ghost use Rattle.std.specs.Prelude.{◌≡◌, ◌<◌, ◌≤◌, length, drop, IfOk, IfSome};
 ghost use Rattle.std.specs.List.{prefix_len};
 ghost use Rattle.c_lexer.specs.Bytes.{is_word_byte, stops};
@@ -6,6 +7,7 @@ ghost use Rattle.c_lexer.specs.Opening.{Fits};
 
 use crate::bytes::{continues, continues_in_comment, stops, word_len};
 use crate::piece::{Fault, Piece, Stop};
+use crate::recent::Recent;
 use crate::words::kind_of_word;
 use mf_list::Memory;
 use std::alloc::Global;
@@ -69,12 +71,12 @@ pub fn block_comment(rest: &[u8]) -> Piece
 }
 
 /// A name, a key word or a refused word.
-pub fn word(alloc: Global, rest: &[u8]) -> Result<Piece, Memory>
+pub fn word(alloc: Global, recent: &mut Recent, rest: &[u8]) -> Result<Piece, Memory>
     requires { 0 < prefix_len is_word_byte rest.now }
     ensures piece { IfOk result (λ p. p ≡ word_piece rest.now) }
     ensures fits { IfOk result (λ p. Fits p rest.now) }
 {
     let n = word_len(rest);
-    let kind = kind_of_word(alloc, &rest[..n])?;
+    let kind = kind_of_word(alloc, recent, &rest[..n])?;
     Ok(Piece::Lexeme(kind, n))
 }

@@ -1,3 +1,5 @@
+// Tokens and their places.
+use mf_bytes::SharedBytes;
 use mf_list::Seq;
 
 /// A token and its place: `start` is the offset of its first byte, `end` the one after its last.
@@ -11,11 +13,11 @@ pub struct Token {
 /// What a token is. The numbers of key words, punctuators and refused rows are places in their tables, from 0.
 #[derive(Debug, Drop)]
 pub enum Kind {
-    Name(Seq<u8>),
+    Name(SharedBytes),
     Key(u16),
     Number(i32),
     /// A string, as its bytes after escapes.
-    Text(Seq<u8>),
+    Text(SharedBytes),
     Punct(u16),
     Refused(u16),
 }

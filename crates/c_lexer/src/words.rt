@@ -1,8 +1,10 @@
+// The kinds of words, by the tables of key words and of refused words.
 ghost use Rattle.std.specs.Prelude.{◌≡◌, IfOk};
-ghost use Rattle.c_lexer.specs.Words.{key_word, refused_word, punctuator, refused_punctuator, kind_of_word, punctuator_kind};
+ghost use Rattle.c_lexer.specs.Words.{key_word, refused_word, kind_of_word};
 
 use crate::Kind;
-use mf_list::{Memory, Seq};
+use crate::recent::Recent;
+use mf_list::Memory;
 use mf_tables::{Table, rows};
 use std::alloc::Global;
 
@@ -30,44 +32,6 @@ fn key_word(word: &[u8]) -> Option<u16>
         b"typedef" => 16,
         b"void" => 17,
         b"while" => 18,
-    ];
-    table.find(word)
-}
-
-/// The place of a punctuator.
-fn punctuator(word: &[u8]) -> Option<u16>
-    ensures { result ≡ punctuator word.now }
-{
-    let table: Table<29> = rows![
-        b"!" => 0,
-        b"!=" => 1,
-        b"%" => 2,
-        b"&&" => 3,
-        b"(" => 4,
-        b")" => 5,
-        b"*" => 6,
-        b"*=" => 7,
-        b"+" => 8,
-        b"++" => 9,
-        b"+=" => 10,
-        b"," => 11,
-        b"-" => 12,
-        b"--" => 13,
-        b"-=" => 14,
-        b"->" => 15,
-        b"/" => 16,
-        b";" => 17,
-        b"<" => 18,
-        b"<=" => 19,
-        b"=" => 20,
-        b"==" => 21,
-        b">" => 22,
-        b">=" => 23,
-        b"[" => 24,
-        b"]" => 25,
-        b"{" => 26,
-        b"||" => 27,
-        b"}" => 28,
     ];
     table.find(word)
 }
@@ -114,60 +78,16 @@ fn refused_word(word: &[u8]) -> Option<u16>
     table.find(word)
 }
 
-/// The row of a refused punctuator.
-fn refused_punctuator(word: &[u8]) -> Option<u16>
-    ensures { result ≡ refused_punctuator word.now }
-{
-    let table: Table<25> = rows![
-        b"#" => 33,
-        b"##" => 34,
-        b"%:" => 35,
-        b"%:%:" => 36,
-        b"%=" => 37,
-        b"%>" => 38,
-        b"&" => 39,
-        b"&=" => 40,
-        b"." => 41,
-        b"..." => 42,
-        b"/=" => 43,
-        b":" => 44,
-        b":>" => 45,
-        b"<%" => 46,
-        b"<:" => 47,
-        b"<<" => 48,
-        b"<<=" => 49,
-        b">>" => 50,
-        b">>=" => 51,
-        b"?" => 52,
-        b"^" => 53,
-        b"^=" => 54,
-        b"|" => 55,
-        b"|=" => 56,
-        b"~" => 57,
-    ];
-    table.find(word)
-}
-
-/// The kind of a word: refused, a key word, or a name.
-pub fn kind_of_word(alloc: Global, word: &[u8]) -> Result<Kind, Memory>
+/// The kind of a word: a key word, refused, or a name.
+pub fn kind_of_word(alloc: Global, recent: &mut Recent, word: &[u8]) -> Result<Kind, Memory>
     ensures { IfOk result (λ kind. kind ≡ kind_of_word word.now) }
 {
-    if let Some(row) = refused_word(word) {
-        return Ok(Kind::Refused(row));
-    }
     if let Some(number) = key_word(word) {
         return Ok(Kind::Key(number));
     }
-    let name = Seq::from_slice(alloc, word)?;
-    Ok(Kind::Name(name))
-}
-
-/// The kind of a punctuator of either table.
-pub fn punctuator_kind(word: &[u8]) -> Option<Kind>
-    ensures { result ≡ punctuator_kind word.now }
-{
-    match punctuator(word) {
-        Some(number) => Some(Kind::Punct(number)),
-        None => Some(Kind::Refused(refused_punctuator(word)?)),
+    if let Some(row) = refused_word(word) {
+        return Ok(Kind::Refused(row));
     }
+    let name = recent.name(alloc, word)?;
+    Ok(Kind::Name(name))
 }

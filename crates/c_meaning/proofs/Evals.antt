@@ -1,69 +1,73 @@
--- The values of expressions, one level opened.
-use Rattle.std.proofs.Common.{◌≡◌, ℕ, ℤ, pos, Bool, false, List, [], ◌∷◌, slice_get, Some, Result, Ok, refl, ap, sym, ◌∙◌}
+-- The values and locations of expressions, one level opened.
+use Rattle.std.proofs.Common.{◌≡◌, ℕ, ℤ, pos, List, Result, Ok, ap, sym, ◌∙◌}
 use Rattle.c_tree.specs.declared.expr.Expr.{Expr, fold-roll-Expr}
 use Rattle.c_tree.specs.declared.expr.Expr.TheVariants as expr
-use Rattle.c_tree.specs.declared.expr.Expr.TheOpen as open_expr
-use Rattle.c_meaning.specs.declared.machine.Value.{Value}
-use Rattle.c_meaning.specs.declared.machine.Value.TheVariants as value
+use Rattle.c_tree.specs.declared.expr.Expr.TheOpen as layer
+use Rattle.c_tree.specs.declared.expr.Sign.{Sign}
+use Rattle.c_tree.specs.declared.expr.Oper.{Oper}
+use Rattle.c_meaning.specs.declared.value.Value.{Value}
+use Rattle.c_meaning.specs.declared.value.Value.TheVariants as value
 use Rattle.c_meaning.specs.declared.machine.Object.{Object}
-use Rattle.c_meaning.specs.declared.machine.Kind.TheVariants.{NullDeref}
-use Rattle.c_meaning.specs.Eval.{Slot, Cell, Flaw, flaw, ◌>>=◌, slot_of, read, value_at, cell_of, eval_layer, eval, place_layer, place_of}
+use Rattle.c_meaning.specs.declared.machine.Location.TheVariants.{Slot}
+use Rattle.c_meaning.specs.declared.machine.Stop.{Stop}
+use Rattle.c_meaning.specs.Eval.{◌>>=◌, value_at, int_of, cell_of, field_cell, signed, binary, eval_layer, eval, place_layer, place_of}
 
-pub eval_var : (slots : List Value) (objects : List Object) (x at : ℕ) → eval slots objects (expr.Var x at) ≡ value_at slots objects at (Slot x)
-eval_var slots objects x at =
-    ap (eval slots objects) (sym (expr.rolls-Var x at))
-    ∙ fold-roll-Expr (Result Value Flaw) (eval_layer slots objects) (open_expr.Var x at)
+pub eval_var : (slots : List Value) (objects : List Object) (x offset : ℕ) → eval slots objects (expr.Var x offset) ≡ value_at slots objects offset (Slot x)
+eval_var slots objects x offset =
+    ap (eval slots objects) (sym (expr.rolls-Var x offset))
+    ∙ fold-roll-Expr (Result Value Stop) (eval_layer slots objects) (layer.Var x offset)
 
-pub eval_const : (slots : List Value) (objects : List Object) (n : ℤ) (at : ℕ) → eval slots objects (expr.Const n at) ≡ Ok (value.Int n)
-eval_const slots objects n at =
-    ap (eval slots objects) (sym (expr.rolls-Const n at))
-    ∙ fold-roll-Expr (Result Value Flaw) (eval_layer slots objects) (open_expr.Const n at)
+pub eval_const : (slots : List Value) (objects : List Object) (n : ℤ) (offset : ℕ) → eval slots objects (expr.Const n offset) ≡ Ok (value.Int n)
+eval_const slots objects n offset =
+    ap (eval slots objects) (sym (expr.rolls-Const n offset))
+    ∙ fold-roll-Expr (Result Value Stop) (eval_layer slots objects) (layer.Const n offset)
 
-pub eval_deref : (slots : List Value) (objects : List Object) (e : Expr) (at : ℕ) →
-    eval slots objects (expr.Deref e at) ≡ (eval slots objects e >>= λ v. cell_of objects at (pos 0) v >>= value_at slots objects at)
-eval_deref slots objects e at =
-    ap (eval slots objects) (sym (expr.rolls-Deref e at))
-    ∙ fold-roll-Expr (Result Value Flaw) (eval_layer slots objects) (open_expr.Deref e at)
+pub eval_null : (slots : List Value) (objects : List Object) (offset : ℕ) → eval slots objects (expr.Null offset) ≡ Ok value.Null
+eval_null slots objects offset =
+    ap (eval slots objects) (sym (expr.rolls-Null offset))
+    ∙ fold-roll-Expr (Result Value Stop) (eval_layer slots objects) (layer.Null offset)
 
-pub place_var : (slots : List Value) (objects : List Object) (x at : ℕ) → place_of slots objects (expr.Var x at) ≡ Ok (Slot x)
-place_var slots objects x at = ap (place_layer slots objects) (expr.outs-Var x at)
+pub eval_field : (slots : List Value) (objects : List Object) (e : Expr) (f offset : ℕ) →
+    eval slots objects (expr.Field e f offset) ≡ (eval slots objects e >>= field_cell objects offset f >>= value_at slots objects offset)
+eval_field slots objects e f offset =
+    ap (eval slots objects) (sym (expr.rolls-Field e f offset))
+    ∙ fold-roll-Expr (Result Value Stop) (eval_layer slots objects) (layer.Field e f offset)
 
-pub place_deref : (slots : List Value) (objects : List Object) (e : Expr) (at : ℕ) →
-    place_of slots objects (expr.Deref e at) ≡ (eval slots objects e >>= cell_of objects at (pos 0))
-place_deref slots objects e at = ap (place_layer slots objects) (expr.outs-Deref e at)
+pub eval_deref : (slots : List Value) (objects : List Object) (e : Expr) (offset : ℕ) →
+    eval slots objects (expr.Deref e offset) ≡ (eval slots objects e >>= cell_of objects offset (pos 0) >>= value_at slots objects offset)
+eval_deref slots objects e offset =
+    ap (eval slots objects) (sym (expr.rolls-Deref e offset))
+    ∙ fold-roll-Expr (Result Value Stop) (eval_layer slots objects) (layer.Deref e offset)
 
--- an object of one cell, and whether it is freed
-abbrev pub cell_object : Value → Bool → Object
-cell_object v freed = record { cells = v ∷ []; freed = freed }
+pub eval_index : (slots : List Value) (objects : List Object) (e i : Expr) (offset : ℕ) →
+    eval slots objects (expr.Index e i offset) ≡ (eval slots objects e >>= λ v. eval slots objects i >>= int_of >>= λ k. cell_of objects offset k v >>= value_at slots objects offset)
+eval_index slots objects e i offset =
+    ap (eval slots objects) (sym (expr.rolls-Index e i offset))
+    ∙ fold-roll-Expr (Result Value Stop) (eval_layer slots objects) (layer.Index e i offset)
 
--- *x where x holds a null pointer, and where it holds an object of one cell that is not freed
+pub eval_unary : (slots : List Value) (objects : List Object) (s : Sign) (e : Expr) (offset : ℕ) →
+    eval slots objects (expr.Unary s e offset) ≡ (eval slots objects e >>= signed s offset)
+eval_unary slots objects s e offset =
+    ap (eval slots objects) (sym (expr.rolls-Unary s e offset))
+    ∙ fold-roll-Expr (Result Value Stop) (eval_layer slots objects) (layer.Unary s e offset)
 
-pub place_at_null : (slots : List Value) (objects : List Object) (x at star : ℕ) → slot_of slots x ≡ value.Null →
-    place_of slots objects (expr.Deref (expr.Var x at) star) ≡ flaw NullDeref star
-place_at_null slots objects x at star h =
-    place_deref slots objects (expr.Var x at) star
-    ∙ ap (λ (r : Result Value Flaw). r >>= cell_of objects star (pos 0)) (eval_var slots objects x at)
-    ∙ ap (λ (v : Value). read objects at v >>= cell_of objects star (pos 0)) h
+pub eval_binary : (slots : List Value) (objects : List Object) (o : Oper) (a b : Expr) (offset : ℕ) →
+    eval slots objects (expr.Binary o a b offset) ≡ (eval slots objects a >>= λ v. eval slots objects b >>= binary o offset v)
+eval_binary slots objects o a b offset =
+    ap (eval slots objects) (sym (expr.rolls-Binary o a b offset))
+    ∙ fold-roll-Expr (Result Value Stop) (eval_layer slots objects) (layer.Binary o a b offset)
 
-pub place_at_cell : (slots : List Value) (objects : List Object) (x at star o : ℕ) (w : Value) → slot_of slots x ≡ value.Ptr o → slice_get objects o ≡ Some (cell_object w false) →
-    place_of slots objects (expr.Deref (expr.Var x at) star) ≡ Ok (Cell o 0)
-place_at_cell slots objects x at star o w h k =
-    place_deref slots objects (expr.Var x at) star
-    ∙ ap (λ (r : Result Value Flaw). r >>= cell_of objects star (pos 0)) (eval_var slots objects x at)
-    ∙ ap (λ (v : Value). read objects at v >>= cell_of objects star (pos 0)) h
-    ∙ rw (k, k) refl
+pub place_var : (slots : List Value) (objects : List Object) (x offset : ℕ) → place_of slots objects (expr.Var x offset) ≡ Ok (Slot x)
+place_var slots objects x offset = ap (place_layer slots objects) (expr.outs-Var x offset)
 
-pub eval_at_null : (slots : List Value) (objects : List Object) (x at star : ℕ) → slot_of slots x ≡ value.Null →
-    eval slots objects (expr.Deref (expr.Var x at) star) ≡ flaw NullDeref star
-eval_at_null slots objects x at star h =
-    eval_deref slots objects (expr.Var x at) star
-    ∙ ap (λ (r : Result Value Flaw). r >>= λ v. cell_of objects star (pos 0) v >>= value_at slots objects star) (eval_var slots objects x at)
-    ∙ ap (λ (v : Value). read objects at v >>= λ v. cell_of objects star (pos 0) v >>= value_at slots objects star) h
+pub place_deref : (slots : List Value) (objects : List Object) (e : Expr) (offset : ℕ) →
+    place_of slots objects (expr.Deref e offset) ≡ (eval slots objects e >>= cell_of objects offset (pos 0))
+place_deref slots objects e offset = ap (place_layer slots objects) (expr.outs-Deref e offset)
 
-pub eval_at_cell : (slots : List Value) (objects : List Object) (x at star o : ℕ) (w : Value) → slot_of slots x ≡ value.Ptr o → slice_get objects o ≡ Some (cell_object w false) →
-    eval slots objects (expr.Deref (expr.Var x at) star) ≡ read objects star w
-eval_at_cell slots objects x at star o w h k =
-    eval_deref slots objects (expr.Var x at) star
-    ∙ ap (λ (r : Result Value Flaw). r >>= λ v. cell_of objects star (pos 0) v >>= value_at slots objects star) (eval_var slots objects x at)
-    ∙ ap (λ (v : Value). read objects at v >>= λ v. cell_of objects star (pos 0) v >>= value_at slots objects star) h
-    ∙ rw (k, k, k) refl
+pub place_field : (slots : List Value) (objects : List Object) (e : Expr) (f offset : ℕ) →
+    place_of slots objects (expr.Field e f offset) ≡ (eval slots objects e >>= field_cell objects offset f)
+place_field slots objects e f offset = ap (place_layer slots objects) (expr.outs-Field e f offset)
+
+pub place_index : (slots : List Value) (objects : List Object) (e i : Expr) (offset : ℕ) →
+    place_of slots objects (expr.Index e i offset) ≡ (eval slots objects e >>= λ v. eval slots objects i >>= int_of >>= λ k. cell_of objects offset k v)
+place_index slots objects e i offset = ap (place_layer slots objects) (expr.outs-Index e i offset)

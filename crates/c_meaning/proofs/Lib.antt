@@ -1,17 +1,21 @@
+mod CellLists
+mod StackLists
 pub mod Evals
-pub mod Flat
-pub mod Held
-pub mod Freed
-pub mod Items
-pub mod Plain
-pub mod Returns
-pub mod Courses
-pub mod Examples
-pub mod Marks
-pub mod Erased
+mod Conditions
+mod Examples
+pub mod First
 pub mod Opened
-pub mod Skeletons
-mod TwoPrograms
-pub mod Bare
-pub mod Alikes
-pub mod Unfreed
+pub mod BareTests
+pub mod BareParts
+pub mod BuiltSpots
+pub mod Outlines
+pub mod Regapped
+pub mod OutlinePlaces
+pub mod GapBound
+pub mod Together
+pub mod Agree
+pub mod StoresAgree
+pub mod Runs
+pub mod AlikeRuns
+pub mod FreesApart
+pub mod FaultTexts

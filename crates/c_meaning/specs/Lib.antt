@@ -1,6 +1,10 @@
-pub mod Machine
-pub mod Eval
+pub mod Cells
+pub mod Parts
 pub mod Place
+pub mod Eval
+pub mod Machine
+pub mod Effects
 pub mod Step
 pub mod Safe
-pub mod Frees
+pub mod First
+pub mod Texts

@@ -14,6 +14,7 @@ abbrev pub run : Program → List ℕ → List Bool → ℕ → Machine
 run p input fails zero = start p input fails
 run p input fails (suc n) = step p (run p input fails n)
 
+-- each number is a byte
 abbrev pub AreBytes : List ℕ → Type 0
 AreBytes input = All (λ b. b < 2 ^ 8) input
 
@@ -29,6 +30,7 @@ pub record Safe (q : Program) : Type 0 where
   pub all_freed : (input : List ℕ) (fails : List Bool) (n : ℕ) → AreBytes input →
       (answer : ℤ) → (run q input fails n).ending ≡ Returned answer → All (λ o. IsTrue o.freed) (run q input fails n).objects
 
+-- a run that has ended by a fault
 abbrev pub IsFault : Ending → Type 0
 IsFault Running = ⊥
 IsFault (Returned answer) = ⊥

@@ -1,19 +1,13 @@
+use crate::cells::Cells;
+use crate::stack::Stack;
+use crate::supply::Supply;
+use crate::value::Value;
 use mf_list::Seq;
-
-/// The content of a slot or a cell: indeterminate (C99 6.7.8p10), an `int`, a null pointer, or a
-/// pointer to the object of that number.
-#[derive(Clone, Copy, Debug, PartialEq, Eq)]
-pub enum Value {
-    Undef,
-    Int(i32),
-    Null,
-    Ptr(usize),
-}
 
 /// What one `malloc` made: its cells, and whether it was freed (C99 6.2.4, 7.20.3).
 #[derive(Debug, Drop)]
 pub struct Object {
-    pub cells: Seq<Value>,
+    pub cells: Cells,
     pub freed: bool,
 }
 
@@ -27,6 +21,22 @@ pub enum Kind {
     Overflow,
     DivZero,
     DoubleFree,
+}
+
+/// Where a value is kept: in the slot of the variable of that number, or in a cell of an object, by
+/// the numbers of both (C99 3.14).
+#[derive(Clone, Copy, Debug, PartialEq, Eq)]
+pub enum Location {
+    Slot(usize),
+    Cell(usize, usize),
+}
+
+/// Why an evaluation gives no value: a fault at an offset in the text, or a form that the grammar or
+/// the types exclude, so that no well-formed program comes to it.
+#[derive(Clone, Copy, Debug, PartialEq, Eq)]
+pub enum Stop {
+    Faulted(Kind, usize),
+    Excluded,
 }
 
 /// How far a run is. `Fault` has the fault, its offset in the text, and whether a free raised it.
@@ -53,9 +63,9 @@ pub struct Frame {
 pub struct Machine {
     pub slots: Seq<Value>,
     pub objects: Seq<Object>,
-    pub rest: Seq<Frame>,
-    pub input: Seq<u8>,
-    pub fails: Seq<bool>,
+    pub rest: Stack<Frame>,
+    pub input: Supply<u8>,
+    pub fails: Supply<bool>,
     pub output: Seq<u8>,
     pub steps: u64,
     pub ending: Ending,

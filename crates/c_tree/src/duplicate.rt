@@ -5,6 +5,8 @@ use crate::expr::Expr;
 use crate::program::{
     Call, Declr, FieldDef, ForHead, Free, Gap, Right, Simple, Size, Start, StructDef, VarDef,
 };
+use crate::tree::{Base, Spec, Word};
+use mf_bytes::SharedBytes;
 use mf_list::{Memory, Seq};
 use sqlite_items::Boxed;
 use std::alloc::Global;
@@ -197,6 +199,43 @@ impl Duplicate for VarDef {
             name: Seq::from_slice(alloc, self.name.as_slice())?,
             ty: self.ty,
             home: self.home,
+            at: self.at,
+        })
+    }
+}
+
+impl Duplicate for SharedBytes {
+    fn duplicate(&self, _alloc: Global) -> Result<SharedBytes, Memory> {
+        self.share()
+    }
+}
+
+impl Duplicate for Word {
+    fn duplicate(&self, alloc: Global) -> Result<Word, Memory> {
+        Ok(Word {
+            text: self.text.duplicate(alloc)?,
+            at: self.at,
+        })
+    }
+}
+
+impl Duplicate for Base {
+    fn duplicate(&self, alloc: Global) -> Result<Base, Memory> {
+        match self {
+            Base::Void => Ok(Base::Void),
+            Base::Int => Ok(Base::Int),
+            Base::Tag(word) => Ok(Base::Tag(word.duplicate(alloc)?)),
+            Base::Alias(word) => Ok(Base::Alias(word.duplicate(alloc)?)),
+        }
+    }
+}
+
+impl Duplicate for Spec {
+    fn duplicate(&self, alloc: Global) -> Result<Spec, Memory> {
+        Ok(Spec {
+            base: self.base.duplicate(alloc)?,
+            stars: self.stars,
+            name: self.name.duplicate(alloc)?,
             at: self.at,
         })
     }

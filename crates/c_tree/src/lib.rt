@@ -8,6 +8,7 @@ mod duplicate;
 mod expr;
 mod limits;
 mod program;
+pub mod tree;
 
 pub use alike::same_skeleton;
 pub use choice::{Choice, Put};

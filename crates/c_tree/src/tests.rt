@@ -1,3 +1,4 @@
+// Trees with each kind of item: their copies, skeletons and fills.
 ghost use Rattle.std.specs.Prelude.{IfOk};
 ghost use Rattle.c_tree.specs.Fill.{IsAscending};
 

@@ -5,8 +5,8 @@ use Rattle.std.specs.List.{list_all, range_with_len}
 use Rattle.std.proofs.lemmas.Bool.{eq-eqb, eqb-true, eqb-false}
 use Rattle.std.proofs.lemmas.Bool.Decides.{nat_tests}
 use Rattle.std.proofs.lemmas.List.Recursion.{is_count_by}
-use Rattle.c_meaning.specs.Frees.{is_in}
-use Rattle.c_meaning.proofs.Held.{is_in_first}
+use Rattle.c_meaning.specs.First.Frees.{is_in}
+use Rattle.c_meaning.proofs.First.Held.{is_in_first}
 use Rattle.memfix_engine.specs.Own.{is_apart}
 
 abbrev pub times : ℕ → List ℕ → ℕ

@@ -31,8 +31,8 @@ use Rattle.c_tree.proofs.Rebuilds.{rebuilt, rebuilt_rebuilds}
 use Rattle.c_tree.proofs.Fills.{gap_layers}
 use Rattle.c_tree.proofs.AlikeBlock.{bare_layers}
 use Rattle.c_tree.proofs.Alikes.{bare_variable}
-use Rattle.c_meaning.specs.Frees as all
-use Rattle.c_meaning.specs.Frees.{AllVars}
+use Rattle.c_meaning.specs.First.Frees as all
+use Rattle.c_meaning.specs.First.Frees.{AllVars}
 use Rattle.memfix_engine.specs.declared.draft.Draft.{Draft}
 use Rattle.memfix_engine.specs.declared.edit.Change.{Change}
 use Rattle.memfix_engine.specs.declared.reading.Reading.{Reading}

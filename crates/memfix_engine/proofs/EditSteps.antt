@@ -15,8 +15,8 @@ use Rattle.c_tree.specs.declared.program.Gap.{Gap}
 use Rattle.c_tree.specs.declared.program.Free.{Free}
 use Rattle.c_tree.specs.declared.program.VarDef.{VarDef}
 use Rattle.c_tree.specs.Fill.{puts_at}
-use Rattle.c_meaning.specs.Frees as all
-use Rattle.c_meaning.specs.Frees.{AllVars}
+use Rattle.c_meaning.specs.First.Frees as all
+use Rattle.c_meaning.specs.First.Frees.{AllVars}
 use Rattle.memfix_engine.specs.declared.draft.Pattern.TheVariants as pattern
 use Rattle.memfix_engine.specs.declared.draft.Deed.{Deed}
 use Rattle.memfix_engine.specs.declared.draft.Deed.TheVariants as deed

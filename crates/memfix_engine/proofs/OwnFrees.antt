@@ -14,7 +14,7 @@ use Rattle.c_tree.specs.declared.program.Item.TheVariants as item
 use Rattle.c_tree.specs.declared.program.Arm.{Arm}
 use Rattle.c_tree.specs.declared.program.Free.{Free}
 use Rattle.c_tree.specs.declared.program.Gap.{Gap}
-use Rattle.c_meaning.specs.Frees.{is_in, Frees}
+use Rattle.c_meaning.specs.First.Frees.{is_in, Frees}
 use Rattle.memfix_engine.specs.declared.draft.Draft.{Draft}
 use Rattle.memfix_engine.specs.declared.reading.Reading.{Reading}
 use Rattle.memfix_engine.specs.Own.{variable, variable_of, pointed_of, used, used_in, freed, pieces_of, gaps_of, is_freed_once, is_unused_behind, is_apart, is_ascending, fits}

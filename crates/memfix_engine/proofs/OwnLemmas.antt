@@ -14,7 +14,7 @@ use Rattle.std.proofs.lemmas.Option.{slice_get_within, get_or_from_slice_get}
 use Rattle.c_tree.specs.declared.program.Gap.{Gap}
 use Rattle.c_tree.specs.declared.program.Piece.{Piece, out-Piece}
 use Rattle.c_tree.specs.declared.program.Program.{Program}
-use Rattle.c_meaning.specs.Frees.{is_in}
+use Rattle.c_meaning.specs.First.Frees.{is_in}
 use Rattle.memfix_engine.specs.declared.own.Access.{Access}
 use Rattle.memfix_engine.specs.declared.own.Access.TheVariants.{Free, Use}
 use Rattle.memfix_engine.specs.Own.{freed, used, is_apart, is_unused_behind, is_freed_once, gaps_of, own_puts, is_ascending}

@@ -12,7 +12,7 @@ use Rattle.c_tree.specs.declared.program.Program.{Program}
 use Rattle.c_tree.specs.Fill.{fill}
 use Rattle.c_tree.specs.Alike.{IsAlike}
 use Rattle.c_meaning.specs.Safe.{Safe, Same}
-use Rattle.c_meaning.proofs.Alikes.{same_repair}
+use Rattle.c_meaning.proofs.FreesApart.{same_repair}
 use Rattle.memfix_engine.specs.declared.draft.Step.{Step}
 use Rattle.memfix_engine.specs.declared.draft.Draft.{Draft}
 use Rattle.memfix_engine.specs.declared.edit.Change.{Change}

@@ -2,6 +2,7 @@
 -- that is.
 use Rattle.std.proofs.Common.{◌≡◌, ℕ, ◌+◌, ◌<◌, ◌≤◌, true, false, List, [], ◌∷◌, ◌++◌, length, slice_get, Some, None, refl, ap, sym, subst, ◌∙◌, arith, append_assoc, append-nil, length-append}
 use Rattle.c_tree.specs.declared.expr.Expr.TheVariants as expr
+use Rattle.c_tree.specs.declared.expr.Op.TheVariants.{Put}
 use Rattle.c_tree.specs.declared.program.Block.{Block, Block-F, out-Block, out-roll-Block}
 use Rattle.c_tree.specs.declared.program.Piece.{Piece, Piece-F, out-Piece, out-roll-Piece}
 use Rattle.c_tree.specs.declared.program.Item.{Item, Item-F, out-Item}
@@ -13,15 +14,16 @@ use Rattle.c_tree.specs.declared.program.Gap.{Gap}
 use Rattle.c_tree.specs.declared.program.Right.TheVariants as right
 use Rattle.c_tree.specs.declared.program.Call.TheVariants as call
 use Rattle.c_tree.specs.declared.program.Size.TheVariants as size
-use Rattle.c_meaning.specs.Frees.{is_in, Frees}
-use Rattle.c_meaning.specs.Place.{Action, Request, Store, Print, Leave, Onward, To, behind_action, after_in_fun}
+use Rattle.c_meaning.specs.First.Frees.{is_in, Frees}
+use Rattle.c_meaning.specs.Parts.{Instruction, Malloc, Printf}
+use Rattle.c_meaning.specs.Parts as parts
 use Rattle.c_meaning.specs.Safe.{Safe}
-use Rattle.c_meaning.proofs.Flat.{Stands}
-use Rattle.c_meaning.proofs.Held.{get_seam}
-use Rattle.c_meaning.proofs.Items.{IsOneAction, stands_at, onward_at}
-use Rattle.c_meaning.proofs.Plain.{IsPlain, IsApart, store_of}
-use Rattle.c_meaning.proofs.Courses as courses
-use Rattle.c_meaning.proofs.Courses.{Course, safe_course}
+use Rattle.c_meaning.proofs.First.Flat.{Stands, GoesOn}
+use Rattle.c_meaning.proofs.First.Held.{get_seam}
+use Rattle.c_meaning.proofs.First.Items.{IsOneAction, GoesBehind, stands_at, onward_at}
+use Rattle.c_meaning.proofs.First.Plain.{IsPlain, IsApart, store_of, line_of}
+use Rattle.c_meaning.proofs.First.Courses as courses
+use Rattle.c_meaning.proofs.First.Courses.{Course, safe_course}
 use Rattle.memfix_engine.specs.declared.draft.Draft.{Draft}
 use Rattle.memfix_engine.specs.declared.reading.Reading.{Reading}
 use Rattle.memfix_engine.specs.Reading.{item_piece, gap_of, return_of, result_of, body_of, main_of, whole_of}
@@ -46,39 +48,39 @@ pub data FreesAlong (l : ℕ) (last : List Free) : (k n : ℕ) (gone : List ℕ)
 record Does (n m : ℕ) (i : Item) (straight : IsStraight n i m) : Type 0 where
   pub layer : Item-F Item Arm Block Piece
   pub opened : out-Item i ≡ layer
-  pub action : Action
+  pub action : Instruction
   pub one : IsOneAction layer action
   pub plain : IsPlain n action m
   pub apart : (gone : List ℕ) → UsesNone straight gone → IsApart plain gone
-  pub behind : (inner : Block → Onward) (k : ℕ) → behind_action inner k (Some layer) 0 [] ≡ To ((k + 1) ∷ [])
+  pub goes : GoesBehind layer
 
 does : {n m : ℕ} {i : Item} (straight : IsStraight n i m) → Does n m i straight
 does {n} (IsStraight.declares t) = record {
   layer = layer.Declare (record { var = n; right = Some (right.Call (call.Malloc (size.Ints None) t.malloc)); at = t.equals } ∷ []);
   opened = item.outs-Declare _;
-  action = Request (Some (expr.Var n t.equals)) (size.Ints None);
-  one = record { spot = λ inner. refl; entry = λ k. refl };
-  plain = IsPlain.declares t.equals;
+  action = Malloc (Some (expr.Var n t.equals)) (size.Ints None) t.malloc;
+  one = record { part = λ slot. refl; entry = refl };
+  plain = IsPlain.declares t.equals t.malloc;
   apart = λ gone h. tt;
-  behind = λ inner k. refl;
+  goes = record { behind = λ slot k. refl };
 }
 does (IsStraight.stores t star x h) = record {
-  layer = layer.Assign (store_of x t.name_at star t.number t.number_at t.equals);
+  layer = layer.Assign (record { place = expr.Deref (expr.Var x t.name_at) star; op = Put; right = right.Plain (expr.Const t.number t.number_at); at = t.equals });
   opened = item.outs-Assign _;
-  action = Store (store_of x t.name_at star t.number t.number_at t.equals);
-  one = record { spot = λ inner. refl; entry = λ k. refl };
+  action = store_of x t.name_at star t.number t.number_at t.equals;
+  one = record { part = λ slot. refl; entry = refl };
   plain = IsPlain.stores x t.name_at star t.number t.number_at t.equals h;
   apart = λ gone e. e;
-  behind = λ inner k. refl;
+  goes = record { behind = λ slot k. refl };
 }
 does (IsStraight.shows t word x h) = record {
-  layer = layer.Do (call.Printf (37 ∷ 100 ∷ 10 ∷ []) (expr.Deref (expr.Var x t.name_at) t.star ∷ []) word);
+  layer = layer.Do (call.Printf line_of (expr.Deref (expr.Var x t.name_at) t.star ∷ []) word);
   opened = item.outs-Do _;
-  action = Print (37 ∷ 100 ∷ 10 ∷ []) (expr.Deref (expr.Var x t.name_at) t.star ∷ []);
-  one = record { spot = λ inner. refl; entry = λ k. refl };
-  plain = IsPlain.shows (37 ∷ 100 ∷ 10 ∷ []) x t.name_at t.star h;
+  action = Printf line_of (expr.Deref (expr.Var x t.name_at) t.star ∷ []);
+  one = record { part = λ slot. refl; entry = refl };
+  plain = IsPlain.shows x t.name_at t.star h;
   apart = λ gone e. e;
-  behind = λ inner k. refl;
+  goes = record { behind = λ slot k. refl };
 }
 
 -- the item behind the first ones
@@ -110,20 +112,20 @@ stands_item {it = it} d r i front ps g start end e h it_does =
     (item_behind d r i front ps (item_piece g it start end) e h) (piece_layer g it start end it_does.layer it_does.opened) it_does.one)
 
 onward_item : {n m : ℕ} {it : Item} {straight : IsStraight n it m} (d : Draft) (r : Reading) (i : ℕ) (front ps : List Piece) (g : Gap) (start end : ℕ) → r.pieces ≡ front ++ item_piece g it start end ∷ ps → length front ≡ i
-    → Does n m it straight → after_in_fun (slice_get (whole_of d r).funs 0) (i ∷ 0 ∷ []) ≡ (i + 1) ∷ []
+    → Does n m it straight → GoesOn (whole_of d r) i
 onward_item {it = it} d r i front ps g start end e h it_does =
-    onward_at (whole_of d r) (main_of d (body_of d r)) i (item_piece g it start end) it_does.layer (To ((i + 1) ∷ [])) refl
-    (item_behind d r i front ps (item_piece g it start end) e h) (piece_layer g it start end it_does.layer it_does.opened) (λ inner. it_does.behind inner i)
+    onward_at (whole_of d r) (main_of d (body_of d r)) i (item_piece g it start end) it_does.layer it_does.action refl
+    (item_behind d r i front ps (item_piece g it start end) e h) (piece_layer g it start end it_does.layer it_does.opened) it_does.one it_does.goes
 
-stands_return : (d : Draft) (r : Reading) (i : ℕ) → length r.pieces ≡ i → Stands (whole_of d r) i r.frees (Leave (Some (expr.Const d.number d.number_at)))
+stands_return : (d : Draft) (r : Reading) (i : ℕ) → length r.pieces ≡ i → Stands (whole_of d r) i r.frees (parts.Return (Some (expr.Const d.number d.number_at)) d.return_at)
 stands_return d r i h =
-    subst (λ (fs : List Free). Stands (whole_of d r) i fs (Leave (Some (expr.Const d.number d.number_at)))) (piece_frees (gap_of r) (return_of d) d.return_at d.return_end)
-    (stands_at (whole_of d r) (main_of d (body_of d r)) i (return_piece d r) (layer.Return (Some (right.Plain (expr.Const d.number d.number_at))) d.return_at) (Leave (Some (expr.Const d.number d.number_at))) refl
-    (return_behind d r i h) (piece_layer (gap_of r) (return_of d) d.return_at d.return_end _ (item.outs-Return _ _)) (record { spot = λ inner. refl; entry = λ k. refl }))
+    subst (λ (fs : List Free). Stands (whole_of d r) i fs (parts.Return (Some (expr.Const d.number d.number_at)) d.return_at)) (piece_frees (gap_of r) (return_of d) d.return_at d.return_end)
+    (stands_at (whole_of d r) (main_of d (body_of d r)) i (return_piece d r) (layer.Return (Some (right.Plain (expr.Const d.number d.number_at))) d.return_at) (parts.Return (Some (expr.Const d.number d.number_at)) d.return_at) refl
+    (return_behind d r i h) (piece_layer (gap_of r) (return_of d) d.return_at d.return_end _ (item.outs-Return _ _)) (record { part = λ slot. refl; entry = refl }))
 
 -- the program from an item on
 course : {l : ℕ} (d : Draft) (r : Reading) {k n : ℕ} {gone : List ℕ} {ps : List Piece} (front : List Piece) → FreesAlong l r.frees k n gone ps → r.pieces ≡ front ++ ps → length front ≡ k → Course (whole_of d r) d.number l k n gone
-course d r {k = k} front (ends frees all) e h = courses.ends d.number_at (stands_return d r k (ap length (e ∙ append-nil front) ∙ h)) frees all
+course d r {k = k} front (ends frees all) e h = courses.ends d.number_at d.return_at (stands_return d r k (ap length (e ∙ append-nil front) ∙ h)) frees all
 course d r {k = k} front (goes {now = now} {fs = fs} {i = it} {ps = ps} start end frees straight unused rest) e h =
     let piece = item_piece (gap_with k fs) it start end in
     let count : length (front ++ piece ∷ []) ≡ k + 1 = length-append front (piece ∷ []) ∙ ap (λ (j : ℕ). j + 1) h in

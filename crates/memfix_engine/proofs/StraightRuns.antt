@@ -4,10 +4,10 @@ use Rattle.std.proofs.lemmas.Bool.Decides.{nat_tests}
 use Rattle.c_tree.specs.declared.program.Free.{Free}
 use Rattle.c_tree.specs.declared.program.Item.{Item}
 use Rattle.c_tree.specs.declared.program.Piece.{Piece}
-use Rattle.c_meaning.specs.Frees.{is_in, Frees, AllVars}
+use Rattle.c_meaning.specs.First.Frees.{is_in, Frees, AllVars}
 use Rattle.c_meaning.specs.Safe.{Safe}
-use Rattle.c_meaning.proofs.Held.{is_in_other}
-use Rattle.c_meaning.proofs.Returns.{AllVars-order}
+use Rattle.c_meaning.proofs.First.Held.{is_in_other}
+use Rattle.c_meaning.proofs.First.Returns.{AllVars-order}
 use Rattle.memfix_engine.specs.declared.draft.Draft.{Draft}
 use Rattle.memfix_engine.specs.declared.reading.Reading.{Reading}
 use Rattle.memfix_engine.specs.Own.{fits}

@@ -36,7 +36,7 @@ pub record IsRepaired (words : List (String Global)) (left left' : Option (List 
   pub read : IsRead left left' input
   pub repairs : Repairs input text
 
--- what came from the source was at most 4,096 bytes more than the limit
+-- what came from the source was at most 4,096 bytes more than the limit, where it tells its bytes
 pub record IsWithin (left left' : Option (List ℕ)) : Type 0 where
   pub piece : List ℕ
   pub gives : Gives left left' piece

@@ -13,7 +13,7 @@ use Rattle.c_tree.specs.declared.program.Call.{Call}
 use Rattle.c_tree.specs.declared.program.Call.TheVariants.{Printf}
 use Rattle.c_tree.specs.declared.program.Gap.{Gap}
 use Rattle.c_tree.specs.declared.program.Program.{Program}
-use Rattle.c_meaning.specs.Frees.{is_in}
+use Rattle.c_meaning.specs.First.Frees.{is_in}
 
 abbrev pub put_of : ℕ → ℕ → Put
 put_of gap x = record { gap = gap; var = x; field = None }

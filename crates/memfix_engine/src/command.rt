@@ -74,7 +74,7 @@ pub fn memfix<S: Source, K: Sink, N: Sink>(
     ensures other_words { is_repair words.now ≡ false → (result ≡ 2) ⊎ ((result ≡ 6) ⊎ (result ≡ 7)) }
     ensures unread { is_repair words.now ≡ false → source.new ≡ source.old }
 
-    // No more than 4,096 bytes past the limit are read, whatever comes of it.
+    // Of a source that tells its bytes, no more than 4,096 past the limit are read, whatever comes of it.
     ensures within { IsWithin (S.left source.old) (S.left source.new) }
 
     // Where no call fails, the bytes that are left determine the status.

@@ -1,23 +1,27 @@
-//! Names by number, looked up by a hash.
+//! Names by number, looked up in their order by bytes, so that no choice of names makes it slow.
 ghost use Rattle.std.specs.Prelude.{◌≡◌, [], ◌∷◌, ◌++◌, None, IsTrue, ◌↔◌, OnOk, OnErr};
 ghost use Rattle.memfix_engine.specs.Names.{number_in};
 
-use indexmap::IndexSet;
 use std::alloc::{AllocError, Global};
+use std::collections::BTreeMap;
 use std::marker::Model;
 
 /// Names by number, in the order in which they came. Each comes once.
 #[derive(Drop)]
 pub(crate) struct Names {
-    words: IndexSet<Vec<u8>>,
+    words: Vec<Vec<u8>>,
+    numbers: BTreeMap<Vec<u8>, usize>,
 }
 
 impl Model for Names {
     ghost use Rattle.std.specs.Prelude.{ℕ, List, map};
+    ghost use Rattle.memfix_engine.specs.Names.{Finds};
 
     ghost Value = { List (List ℕ) };
 
-    ghost view = { λ s. map (λ w. w.items) s.words.keys };
+    ghost view = { λ s. map (λ w. w.items) s.words.items };
+
+    ghost invariant = { λ s. Finds (λ w. w.items) s.numbers.entries (map (λ w. w.items) s.words.items) };
 }
 
 impl Names {
@@ -25,7 +29,8 @@ impl Names {
         ensures { result ≡ [] }
     {
         Names {
-            words: IndexSet::new(alloc),
+            words: Vec::new(alloc),
+            numbers: BTreeMap::new(alloc),
         }
     }
 
@@ -39,7 +44,7 @@ impl Names {
     pub(crate) fn find(&self, name: &[u8]) -> Option<usize>
         ensures { result ≡ number_in self.now name.now }
     {
-        self.words.get_index_of(name)
+        self.numbers.get(name).copied()
     }
 
     /// Gives a name that is not there the next number.
@@ -48,7 +53,11 @@ impl Names {
         ensures ok { OnOk result (self.new ≡ self.old ++ name.now ∷ []) }
         ensures err { OnErr result (self.new ≡ self.old) }
     {
-        self.words.insert(Vec::from_slice(alloc, name)?)?;
+        let word = Vec::from_slice(alloc, name)?;
+        let key = Vec::from_slice(alloc, name)?;
+        self.words.reserve(1)?;
+        self.numbers.insert(key, self.words.len())?;
+        self.words.push(word)?;
         Ok(())
     }
 }

@@ -1,3 +1,4 @@
+// What the command writes and answers, and what a repair gives.
 use super::*;
 use mf_io::{MemSink, MemSource};
 use std::alloc::{AllocError, Global};

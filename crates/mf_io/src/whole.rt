@@ -50,7 +50,8 @@ impl From<AllocError> for ReadRefusal {
 // How many bytes one call of a source may give.
 const ROOM: usize = 4096;
 
-/// Reads to the end, at most `limit` bytes. A source without end is read at most 4,096 bytes further.
+/// Reads to the end, at most `limit` bytes. A source that tells its bytes and has more is read at
+/// most 4,096 bytes further.
 pub fn read_all<S: Source>(
     alloc: Global,
     source: &mut S,

@@ -1,7 +1,7 @@
 -- The definitions, computed on small sets.
 use Rattle.std.proofs.Common.{◌≡◌, true, false, Some, None, [], ◌∷◌, refl}
 use Rattle.std.specs.declared.cmp.Ordering.TheVariants.{Less, Greater}
-use Rattle.mf_set.specs.Numbers.{has, with_number, without_number, union, meet, is_subset, first_common, word_of, words_of}
+use Rattle.mf_set.specs.Numbers.{has, with_number, without_number, union, meet, is_subset, first_common, word_of, words_of, pairs_of}
 use Rattle.mf_set.specs.Order.{numbers_eq, numbers_cmp}
 use Rattle.mf_set.specs.Words.{has_bit, numbers_of}
 
@@ -56,3 +56,8 @@ numbers_of-words = refl
 words_of-numbers : words_of 2 (0 ∷ 2 ∷ 65 ∷ []) ≡ 5 ∷ 2 ∷ []
 unfolding words_of word_of
 words_of-numbers = refl
+
+-- a last word without a second stands alone
+pairs_of-odd : pairs_of (1 ∷ 2 ∷ 3 ∷ []) ≡ 36893488147419103233 ∷ 3 ∷ []
+unfolding pairs_of
+pairs_of-odd = refl

@@ -1,13 +1,15 @@
 -- The words of a set, from its numbers.
-use Rattle.std.proofs.Common.{◌≡◌, ℕ, zero, suc, ◌+◌, ◌*◌, ◌%◌, ◌^◌, ◌<◌, Bool, true, false, cond, List, length, get_or, eqb, refl, sym, ap, ◌∙◌, arith}
+use Rattle.std.proofs.Common.{◌≡◌, ◌↔◌, ℕ, ◌≤◌, ⊎_elim, subst, zero, suc, ◌+◌, ◌*◌, ◌%◌, ◌^◌, ◌<◌, Bool, true, false, cond, List, [], ◌∷◌, length, take, drop, ◌-◌, get_or, eqb, refl, sym, ap, ◌∙◌, arith}
+use Rattle.std.proofs.lemmas.Bool.{cases_lt}
 use Rattle.std.proofs.lemmas.Nat.{mod-pow-add}
 use Rattle.std.proofs.lemmas.Nat.Bits.{bit_at-lt}
 use Rattle.std.proofs.lemmas.List.FromFn.{fill_by_all}
+use Rattle.std.proofs.lemmas.List.{take_all}
 use Rattle.std.proofs.Math.Nat.{mod-eq_of_lt}
 use Rattle.std.specs.Int.{bit_at}
-use Rattle.mf_set.specs.Numbers.{has, word_of, words_of}
+use Rattle.mf_set.specs.Numbers.{has, word_of, words_of, pairs_of}
 use Rattle.mf_set.specs.Words.{bit_of, numbers_of}
-use Rattle.mf_set.proofs.WordLaws.{has_bit_at, has-numbers_of}
+use Rattle.mf_set.proofs.WordLaws.{has_bit_at, has-numbers_of, Combines, Changes, Changes-all}
 
 one_is : (v : ℕ) → v < 2 → cond (eqb v 1) 1 0 ≡ v
 one_is zero s = refl
@@ -42,3 +44,34 @@ words_of-numbers ws fit =
 pub same_words : (us vs : List ℕ) → ((k : ℕ) → get_or us k 0 < 2 ^ 64) → ((k : ℕ) → get_or vs k 0 < 2 ^ 64) → length us ≡ length vs → numbers_of us ≡ numbers_of vs → us ≡ vs
 same_words us vs f g l e =
     sym (words_of-numbers us f) ∙ ap (words_of (length us)) e ∙ ap (λ n. words_of n (numbers_of vs)) l ∙ words_of-numbers vs g
+
+-- words combined from others have other numbers exactly where one of them is another
+pub Changes-numbers : (f : ℕ → ℕ → ℕ) → ((a b : ℕ) → a < 2 ^ 64 → b < 2 ^ 64 → f a b < 2 ^ 64) → (us vs ws : List ℕ) (changed : Bool) (i : ℕ)
+    → ((k : ℕ) → get_or us k 0 < 2 ^ 64) → ((k : ℕ) → get_or vs k 0 < 2 ^ 64) → length ws ≡ length us → length us ≤ i → Combines f us vs ws i → Changes f us vs changed i
+    → (changed ≡ false) ↔ (numbers_of ws ≡ numbers_of us)
+Changes-numbers f bound us vs ws changed i fu fv same all h c =
+    let words = Changes-all f us vs ws changed i same all h c in
+    let fw : (k : ℕ) → get_or ws k 0 < 2 ^ 64 =
+    λ k. ⊎_elim
+    (λ l. subst (λ w. w < 2 ^ 64) (sym (h.done k l)) (bound (get_or us k 0) (get_or vs k 0) (fu k) (fv k)))
+    (λ g. subst (λ w. w < 2 ^ 64) (sym (h.rest k g)) (fu k))
+    (cases_lt k i) in
+    (λ kept. ap numbers_of (words.0 kept), λ e. words.1 (same_words ws us fw fu same e))
+
+-- ---- words two by two
+pub pairs_of-two : (ws : List ℕ) (word : ℕ) → 2 ≤ length ws → word ≡ get_or ws 0 0 + get_or ws 1 0 * 2 ^ 64 → pairs_of ws ≡ word ∷ pairs_of (take (length ws - 2) (drop 2 ws))
+unfolding pairs_of
+pairs_of-two [] word l e = absurd (omega arith)
+pairs_of-two (low ∷ []) word l e = absurd (omega arith)
+pairs_of-two (low ∷ high ∷ ws) word l e = ap (λ w. w ∷ pairs_of ws) (sym e) ∙ ap (λ xs. word ∷ pairs_of xs) (sym (take_all (length (low ∷ high ∷ ws) - 2) ws (omega arith)))
+
+pub pairs_of-one : (ws : List ℕ) → length ws ≡ 1 → pairs_of ws ≡ get_or ws 0 0 ∷ []
+unfolding pairs_of
+pairs_of-one [] e = absurd (omega arith)
+pairs_of-one (low ∷ []) e = refl
+pairs_of-one (low ∷ high ∷ ws) e = absurd (omega arith)
+
+pub pairs_of-none : (ws : List ℕ) → length ws < 1 → pairs_of ws ≡ []
+unfolding pairs_of
+pairs_of-none [] l = refl
+pairs_of-none (low ∷ ws) l = absurd (omega arith)

@@ -4,4 +4,5 @@ pub mod OrderLaws
 pub mod CountLaws
 pub mod InverseLaws
 pub mod SetLaws
+pub mod EachWord
 pub mod Examples

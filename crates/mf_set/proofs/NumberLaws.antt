@@ -2,8 +2,7 @@
 use Rattle.std.proofs.Common.{◌≡◌, ◌≢◌, ℕ, zero, suc, ◌+◌, ◌<◌, ◌≤◌, Bool, true, false, not, cond, ◌&&◌, ◌||◌, Some, None, ⊎_elim, List, [], ◌∷◌, length, get_or, eqb, ltb, leb, refl, sym, ap, ◌∙◌, subst, arith}
 use Rattle.std.proofs.lemmas.Bool.{true≢false, false≢true, eqb-true, eqb-false, eq-eqb, ne_eqb, ltb-true, ltb-false, le-leb, lt-leb, leb-true, leb-false, or_cases, and_parts, and_from, cases_Bool, cases_eq, or_left, or_right}
 use Rattle.std.specs.List.{filter, find, Contains}
-use Rattle.mf_set.specs.Order.{same_set}
-use Rattle.mf_set.specs.Numbers.{Numbers, has, IsAscendingFrom, with_number, without_number, union, meet, is_subset}
+use Rattle.mf_set.specs.Numbers.{has, IsAscendingFrom, with_number, without_number, union, meet, is_subset}
 
 -- a number of an ascending list is not below its start
 pub has_from_low : (low : ℕ) (xs : List ℕ) (n : ℕ) → IsAscendingFrom low xs → has xs n ≡ true → low ≤ n
@@ -48,10 +47,6 @@ same_from_members low (x ∷ xs) (y ∷ ys) u v h =
     let v' : IsAscendingFrom (suc x) ys = subst (λ z. IsAscendingFrom (suc z) ys) same v.1 in
     let h' : (n : ℕ) → has (x ∷ xs) n ≡ has (x ∷ ys) n = λ n. subst (λ z. has (x ∷ xs) n ≡ has (z ∷ ys) n) same (h n) in
     ap (λ zs. x ∷ zs) (same_from_members (suc x) xs ys u.1 v' (has_rest x xs ys u.1 v' h')) ∙ ap (λ z. z ∷ ys) (sym same)
-
--- two sets of one room with the same members are equal
-pub same_set-from_members : (s t : Numbers) → s.room ≡ t.room → IsAscendingFrom 0 s.items → IsAscendingFrom 0 t.items → ((n : ℕ) → has s.items n ≡ has t.items n) → s ≡ t
-same_set-from_members s t e u v h = same_set s t e (same_from_members 0 s.items t.items u v h)
 
 -- ---- the members of what each call leaves
 choose : (p : ℕ → Bool) (x n : ℕ) (r : Bool) (xs : List ℕ) → has xs n ≡ (r && p n) → has (cond (p x) (x ∷ xs) xs) n ≡ ((eqb x n || r) && p n)
@@ -111,9 +106,6 @@ has-union xs (y ∷ ys) n =
 
 pub has-meet : (xs ys : List ℕ) (n : ℕ) → has (meet xs ys) n ≡ (has xs n && has ys n)
 has-meet xs ys n = has-filter (has ys) xs n
-
--- these, for `grind`
-pub ruleset members = (has-with_number, has-without_number, has-union, has-meet)
 
 -- ---- what each call leaves ascends
 pub IsAscendingFrom-lower : (low high : ℕ) (xs : List ℕ) → low ≤ high → IsAscendingFrom high xs → IsAscendingFrom low xs
@@ -203,10 +195,6 @@ filter_from-all from low [] up l = refl
 filter_from-all from low (x ∷ xs) up l =
     rw (le-leb from x (omega (arith, up.0))) (ap (λ ys. x ∷ ys) (filter_from-all from (suc x) xs up.1 (omega (arith, up.0))))
 
-pub filter_from-zero : (xs : List ℕ) → filter (leb 0) xs ≡ xs
-filter_from-zero [] = refl
-filter_from-zero (x ∷ xs) = rw (le-leb 0 x (omega arith)) (ap (λ ys. x ∷ ys) (filter_from-zero xs))
-
 pub find_from-at_least : (from : ℕ) (xs : List ℕ) (n : ℕ) → find (leb from) xs ≡ Some n → from ≤ n
 find_from-at_least from [] n h = absurd (cc)
 find_from-at_least from (x ∷ xs) n h =
@@ -221,44 +209,6 @@ find_has p (x ∷ xs) n h =
     ⊎_elim
     (λ e. let same : Some x ≡ Some n = subst (λ b. cond b (Some x) (find p xs) ≡ Some n) e h in let is : x ≡ n = cc in or_left (eqb x n) (has xs n) (eq-eqb x n is))
     (λ e. or_right (eqb x n) (has xs n) (find_has p xs n (subst (λ b. cond b (Some x) (find p xs) ≡ Some n) e h)))
-    (cases_Bool (p x))
-
-pub find_passes : (p : ℕ → Bool) (xs : List ℕ) (n : ℕ) → find p xs ≡ Some n → p n ≡ true
-find_passes p [] n h = absurd (cc)
-find_passes p (x ∷ xs) n h =
-    ⊎_elim
-    (λ e. let same : Some x ≡ Some n = subst (λ b. cond b (Some x) (find p xs) ≡ Some n) e h in let is : x ≡ n = cc in subst (λ m. p m ≡ true) is e)
-    (λ e. find_passes p xs n (subst (λ b. cond b (Some x) (find p xs) ≡ Some n) e h))
-    (cases_Bool (p x))
-
--- no number before the one that is found passes
-pub find_before : (p : ℕ → Bool) (low : ℕ) (xs : List ℕ) (k n : ℕ) → IsAscendingFrom low xs → find p xs ≡ Some k → n < k → has xs n ≡ true → p n ≡ false
-find_before p low [] k n up h l i = absurd (cc)
-find_before p low (x ∷ xs) k n up h l i =
-    ⊎_elim
-    (λ e.
-    let same : Some x ≡ Some k = subst (λ b. cond b (Some x) (find p xs) ≡ Some k) e h in
-    let is : x ≡ k = cc in
-    let least : x ≤ n = has_from_low x (x ∷ xs) n (omega arith, up.1) i in
-    absurd (omega arith))
-    (λ e.
-    ⊎_elim
-    (λ here. subst (λ m. p m ≡ false) (eqb-true x n here) e)
-    (λ later. find_before p (suc x) xs k n up.1 (subst (λ b. cond b (Some x) (find p xs) ≡ Some k) e h) l later)
-    (or_cases (eqb x n) (has xs n) i))
-    (cases_Bool (p x))
-
--- where none is found, none passes
-pub none_passes : (p : ℕ → Bool) (xs : List ℕ) (n : ℕ) → find p xs ≡ None → has xs n ≡ true → p n ≡ false
-none_passes p [] n h i = absurd (false≢true i)
-none_passes p (x ∷ xs) n h i =
-    ⊎_elim
-    (λ e. let same : Some x ≡ None = subst (λ b. cond b (Some x) (find p xs) ≡ None) e h in absurd (cc))
-    (λ e.
-    ⊎_elim
-    (λ here. subst (λ m. p m ≡ false) (eqb-true x n here) e)
-    (λ later. none_passes p xs n (subst (λ b. cond b (Some x) (find p xs) ≡ None) e h) later)
-    (or_cases (eqb x n) (has xs n) i))
     (cases_Bool (p x))
 
 pub filter_from-next : (low : ℕ) (xs : List ℕ) (from n : ℕ) → IsAscendingFrom low xs → find (leb from) xs ≡ Some n → filter (leb from) xs ≡ n ∷ filter (leb (n + 1)) xs
@@ -283,11 +233,3 @@ filter_from-next low (x ∷ xs) from n up h =
     ∙ filter_from-next (suc x) xs from n up.1 h'
     ∙ ap (λ b. n ∷ cond b (x ∷ filter (leb (n + 1)) xs) (filter (leb (n + 1)) xs)) (sym (lt-leb (n + 1) x past)))
     (cases_Bool (leb from x))
-
-pub filter-find_none : (p : ℕ → Bool) (xs : List ℕ) → find p xs ≡ None → filter p xs ≡ []
-filter-find_none p [] h = refl
-filter-find_none p (x ∷ xs) h =
-    ⊎_elim
-    (λ e. let same : Some x ≡ None = subst (λ b. cond b (Some x) (find p xs) ≡ None) e h in absurd (cc))
-    (λ e. ap (λ b. cond b (x ∷ filter p xs) (filter p xs)) e ∙ filter-find_none p xs (subst (λ b. cond b (Some x) (find p xs) ≡ None) e h))
-    (cases_Bool (p x))

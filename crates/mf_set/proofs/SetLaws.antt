@@ -4,7 +4,7 @@ use Rattle.std.proofs.lemmas.Bool.{false≢true, eqb-true, or_cases, and_parts}
 use Rattle.std.proofs.lemmas.List.{take_at, get_or-replicate, length-replicate}
 use Rattle.std.specs.List.{filter, find}
 use Rattle.std.specs.Prelude.{IfSome}
-use Rattle.mf_set.specs.Numbers.{Numbers, has, IsAscendingFrom, IsBelow, with_number, without_number, union, meet, is_subset, first_common}
+use Rattle.mf_set.specs.Numbers.{Numbers, has, IsAscendingFrom, IsBelow, IsSet, with_number, without_number, union, meet, is_subset, first_common}
 use Rattle.mf_set.specs.Words.{has_bit, numbers_of, AreWords, IsLeastOrNone}
 use Rattle.mf_set.proofs.NumberLaws.{has-with_number, has-without_number, has-union, has-meet, IsAscendingFrom-with_number, IsAscendingFrom-filter, IsAscendingFrom-union, find_none, find_least, is_subset-members, members-is_subset, find_from-at_least, find_has, filter_from-next}
 use Rattle.std.specs.Cmp.{both_ways}
@@ -130,3 +130,52 @@ pub next_rest : (room : ℕ) (ws : List ℕ) (s : Numbers) (from : ℕ) (r : Opt
 next_rest room ws s from None view e = tt
 next_rest room ws s from (Some n) view e =
     filter_from-next 0 s.items from n (subst (λ (t : Numbers). IsAscendingFrom 0 t.items) view (IsAscendingFrom-numbers_of ws)) (sym e)
+
+-- ---- whether a call changed a set
+pub changed_is : (changed : Bool) (room : ℕ) (us ws new : List ℕ) (s : Numbers) → set_of room us ≡ s → new ≡ ws
+    → ((changed ≡ false) ↔ (numbers_of ws ≡ numbers_of us)) → (changed ≡ false) ↔ (set_of room new ≡ s)
+changed_is changed room us ws new s view written h = (
+  λ kept. ap (set_of room) written ∙ ap (λ xs. let t : Numbers = record { items = xs; room = room } in t) (h.0 kept) ∙ view,
+  λ e. h.1 (ap (λ (t : Numbers). t.items) (ap (set_of room) (sym written) ∙ e ∙ sym view)),
+)
+
+-- ---- what a set is
+pub is_set : (room : ℕ) (ws : List ℕ) (s : Numbers) → AreWords room ws → set_of room ws ≡ s → IsSet s
+is_set room ws s h view = subst IsSet view (record { ascending = IsAscendingFrom-numbers_of ws; below = numbers_of-below room ws h })
+
+pub IsSet-insert : (s : Numbers) (k : ℕ) → IsSet s → k < s.room → IsSet (record s { items = with_number s.items k })
+IsSet-insert s k h l = record {
+  ascending = IsAscendingFrom-with_number 0 s.items k (omega arith) h.ascending;
+  below = λ n is.
+      ⊎_elim
+      (λ same. let at : k ≡ n = eqb-true k n same in omega arith)
+      (λ old. h.below n old)
+      (or_cases (eqb k n) (has s.items n) (sym (has-with_number s.items k n) ∙ is));
+}
+
+pub IsSet-remove : (s : Numbers) (k : ℕ) → IsSet s → IsSet (record s { items = without_number s.items k })
+IsSet-remove s k h = record {
+  ascending = IsAscendingFrom-filter (λ n. not (eqb n k)) 0 s.items h.ascending;
+  below = λ n is. h.below n (and_parts (has s.items n) (not (eqb n k)) (sym (has-without_number s.items k n) ∙ is)).0;
+}
+
+pub IsSet-union : (s t : Numbers) → IsSet s → IsSet t → s.room ≡ t.room → IsSet (record s { items = union s.items t.items })
+IsSet-union s t h g same = record {
+  ascending = IsAscendingFrom-union s.items t.items h.ascending;
+  below = λ n is.
+      ⊎_elim
+      (λ old. h.below n old)
+      (λ new. let inside : n < t.room = g.below n new in omega arith)
+      (or_cases (has s.items n) (has t.items n) (sym (has-union s.items t.items n) ∙ is));
+}
+
+pub IsSet-meet : (s t : Numbers) → IsSet s → IsSet (record s { items = meet s.items t.items })
+IsSet-meet s t h = record {
+  ascending = IsAscendingFrom-filter (has t.items) 0 s.items h.ascending;
+  below = λ n is. h.below n (and_parts (has s.items n) (has t.items n) (sym (has-meet s.items t.items n) ∙ is)).0;
+}
+
+pub numbers_of-cleared : (room : ℕ) (us ws : List ℕ) (s : Numbers) → AreWords room us → set_of room us ≡ s → ws ≡ replicate (length us) 0 → set_of room ws ≡ record s { items = [] }
+numbers_of-cleared room us ws s h view e =
+    ap (λ xs. let t : Numbers = record { items = xs; room = room } in t) (ap numbers_of e ∙ numbers_of-none (length us))
+    ∙ ap (λ (t : Numbers). let r : Numbers = record t { items = [] } in r) view

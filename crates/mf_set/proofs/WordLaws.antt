@@ -1,8 +1,8 @@
 -- Laws of sets in words: the numbers of the words are those whose bits are set, and what a write to a word leaves.
-use Rattle.std.proofs.Common.{◌≡◌, ◌≢◌, ℕ, zero, suc, ◌+◌, ◌-◌, ◌*◌, ◌/◌, ◌%◌, ◌^◌, ◌<◌, ◌≤◌, min, max, Bool, true, false, not, ◌&&◌, ◌||◌, ⊎_elim, List, length, get_or, set, eqb, leb, refl, sym, ap, ◌∙◌, subst, arith}
-use Rattle.std.proofs.lemmas.Bool.{true≢false, false≢true, eq-eqb, ne_eqb, cases_eq, cases_lt, or_left, or_right, le-leb, lt-leb}
+use Rattle.std.proofs.Common.{◌≡◌, ◌≢◌, ◌↔◌, ℕ, zero, suc, ◌+◌, ◌-◌, ◌*◌, ◌/◌, ◌%◌, ◌^◌, ◌<◌, ◌≤◌, min, max, Bool, true, false, not, ◌&&◌, ◌||◌, ⊎_elim, List, length, get_or, set, eqb, leb, refl, sym, ap, ◌∙◌, subst, arith}
+use Rattle.std.proofs.lemmas.Bool.{eqb-true, true≢false, false≢true, eq-eqb, ne_eqb, cases_eq, cases_lt, or_left, or_right, le-leb, lt-leb}
 use Rattle.std.proofs.lemmas.Bool.Decides.{nat_tests}
-use Rattle.std.proofs.lemmas.List.{get_or-set_same, get_or-set_other, get_or_past}
+use Rattle.std.proofs.lemmas.List.{get_or-set_same, get_or-set_other, get_or_past, ext_get_or}
 use Rattle.std.proofs.lemmas.Nat.Bits.{bit_at_and, bit_at_or, bit_at-zero, bit_at-lt, bit_at_not, bit_at-trailing_zeros, bit_at_set_same, bit_at_set_other, ones_shl, bit_at_mask_inside, bit_at_mask_below, bit_at_clear_same, bit_at_clear_other}
 use Rattle.std.specs.Prelude.{bit_and, bit_or}
 use Rattle.std.proofs.lemmas.Nat.{and_le_l}
@@ -157,6 +157,44 @@ has_bit-union = has_bit-combined bit_or (λ a b. a || b) one_at_or refl
 
 pub has_bit-meet : (us vs ws : List ℕ) (i : ℕ) → length us ≡ length vs → i ≡ length us → Combines bit_and us vs ws i → (n : ℕ) → has_bit ws n ≡ (has_bit us n && has_bit vs n)
 has_bit-meet = has_bit-combined bit_and (λ a b. a && b) one_at_and refl
+
+-- whether one of the first i words is another behind f
+abbrev pub Changes : (ℕ → ℕ → ℕ) → List ℕ → List ℕ → Bool → ℕ → Type 0
+Changes f us vs changed i = (changed ≡ false) ↔ ((k : ℕ) → k < i → f (get_or us k 0) (get_or vs k 0) ≡ get_or us k 0)
+
+pub Changes-none : (f : ℕ → ℕ → ℕ) (us vs : List ℕ) → Changes f us vs false 0
+Changes-none f us vs = (λ _ k l. absurd (omega arith), λ _. refl)
+
+pub Changes-more : (f : ℕ → ℕ → ℕ) (us vs ws : List ℕ) (changed : Bool) (i : ℕ) → Combines f us vs ws i → Changes f us vs changed i
+    → Changes f us vs (changed || not (eqb (f (get_or ws i 0) (get_or vs i 0)) (get_or ws i 0))) (i + 1)
+Changes-more f us vs ws changed i h c =
+    rw (h.rest i (omega arith)) (
+      λ kept k l.
+          let parts = or_false_parts changed (not (eqb (f (get_or us i 0) (get_or vs i 0)) (get_or us i 0))) kept in
+          ⊎_elim
+          (λ e. subst (λ q. f (get_or us q 0) (get_or vs q 0) ≡ get_or us q 0) (sym e) (eqb-true _ _ (not_false _ parts.1)))
+          (λ e. c.0 parts.0 k (omega arith))
+          (cases_eq k i),
+      λ all. both_false _ _ (c.1 (λ k l. all k (omega arith))) (ap not (eq-eqb _ _ (all i (omega arith)))),
+    )
+  where
+    or_false_parts : (a b : Bool) → (a || b) ≡ false → (a ≡ false) × (b ≡ false)
+    or_false_parts true b e = absurd (true≢false e)
+    or_false_parts false b e = (refl, e)
+
+    not_false : (b : Bool) → not b ≡ false → b ≡ true
+    not_false true e = refl
+    not_false false e = absurd (true≢false e)
+
+    both_false : (a b : Bool) → a ≡ false → b ≡ false → (a || b) ≡ false
+    both_false true b e g = absurd (true≢false e)
+    both_false false b e g = g
+
+pub Changes-all : (f : ℕ → ℕ → ℕ) (us vs ws : List ℕ) (changed : Bool) (i : ℕ) → length ws ≡ length us → length us ≤ i → Combines f us vs ws i → Changes f us vs changed i → (changed ≡ false) ↔ (ws ≡ us)
+Changes-all f us vs ws changed i same all h c = (
+  λ kept. ext_get_or 0 ws us same (λ k l. h.done k (omega arith) ∙ c.0 kept k (omega arith)),
+  λ e. c.1 (λ k l. sym (h.done k l) ∙ ap (λ xs. get_or xs k 0) e),
+)
 
 -- ---- the bits of one word
 -- the bit j of word i

@@ -20,6 +20,11 @@ IsAscendingFrom low (x ∷ xs) = (low ≤ x) × IsAscendingFrom (suc x) xs
 abbrev pub IsBelow : ℕ → List ℕ → Type 0
 IsBelow room xs = (n : ℕ) → has xs n ≡ true → n < room
 
+-- the numbers of a set ascend, and each is below the room
+pub record IsSet (s : Numbers) : Type 0 where
+  pub ascending : IsAscendingFrom 0 s.items
+  pub below : IsBelow s.room s.items
+
 -- the ascending list with k in its place
 abbrev pub with_number : List ℕ → ℕ → List ℕ
 with_number [] k = k ∷ []
@@ -62,3 +67,9 @@ word_of test (suc n) = (if test n then 2 ^ n else 0) + word_of test n
 -- the count words of 64 bits that have these numbers: the number n is the bit n % 64 of the word n / 64
 unfoldable pub words_of : ℕ → List ℕ → List ℕ
 words_of count xs = map (λ i. word_of (λ j. has xs (64 * i + j)) 64) (range_with_len 0 count)
+
+-- each two words as one of 128 bits, the first in its low half
+unfoldable pub pairs_of : List ℕ → List ℕ
+pairs_of [] = []
+pairs_of (low ∷ []) = low ∷ []
+pairs_of (low ∷ high ∷ ws) = (low + high * 2 ^ 64) ∷ pairs_of ws

@@ -1,7 +1,7 @@
 -- Sets compared, and what a set feeds a hasher.
 --     numbers_eq      one room, and the same numbers
 --     numbers_cmp      the rooms decide, and then the greatest number that is in one of the sets alone
---     writes_of      the room, and then the words of the set
+--     writes_of      the room, and then the words of the set, two by two
 use Rattle.std.specs.Prelude.{◌≡◌, ℕ, ◌+◌, ◌/◌, Bool, true, List, ◌++◌, reverse, nat_eq, IsTrue, refl}
 use Rattle.std.specs.Cmp.{IsEquivalence, IsTotalOrder, and_equiv, on_equiv, nat_eq_equiv, then_total, on_total, nat_cmp_total, unsigned_tied, tied_itself, both_ways, Equal-is}
 use Rattle.std.specs.Cmp.Lexicographic.{slice_cmp, pointwise, bytes_decides, nat_list_eq_equiv, nat_list_cmp_total, texts_ties}
@@ -13,7 +13,7 @@ use Rattle.std.specs.List.{flat_map}
 use Rattle.std.proofs.Common.{sym, ap, ◌∙◌, eqb-true}
 use Rattle.std.proofs.lemmas.Bool.{and_parts}
 use Rattle.std.proofs.lemmas.List.{reverse-reverse}
-use Rattle.mf_set.specs.Numbers.{Numbers, words_of}
+use Rattle.mf_set.specs.Numbers.{Numbers, words_of, pairs_of}
 
 abbrev pub numbers_eq : Numbers → Numbers → Bool
 numbers_eq = eq_of_both (on (λ s. s.room) nat_eq) (on (λ s. s.items) (pointwise nat_eq))
@@ -22,7 +22,7 @@ abbrev pub numbers_cmp : Numbers → Numbers → Ordering
 numbers_cmp = then_cmp (on (λ s. s.room) nat_cmp) (on (λ s. reverse s.items) (slice_cmp nat_cmp))
 
 abbrev pub writes_of : Numbers → List (List ℕ)
-writes_of s = fed.usize s.room ++ flat_map fed.u64 (words_of ((s.room + 63) / 64) s.items)
+writes_of s = fed.usize s.room ++ flat_map fed.u128 (pairs_of (words_of ((s.room + 63) / 64) s.items))
 
 pub numbers_eq_equiv : IsEquivalence numbers_eq
 numbers_eq_equiv = and_equiv (on_equiv (λ s. s.room) nat_eq_equiv) (on_equiv (λ s. s.items) nat_list_eq_equiv)

@@ -1,5 +1,5 @@
 -- A set of numbers in words of 64 bits: the number n has the bit n % 64 of the word n / 64.
-use Rattle.std.specs.Prelude.{◌≡◌, ℕ, ◌+◌, ◌*◌, ◌/◌, ◌%◌, ◌^◌, ◌<◌, Bool, true, false, Option, MatchOption, List, length, slice_index, ◌==◌}
+use Rattle.std.specs.Prelude.{◌≡◌, ℕ, ◌+◌, ◌*◌, ◌/◌, ◌%◌, ◌^◌, ◌<◌, Bool, true, false, Option, MatchOption, List, [], ◌∷◌, map, length, slice_index, ◌==◌}
 use Rattle.std.specs.Int.{bit_at}
 use Rattle.std.specs.List.{filter, range_with_len}
 
@@ -14,6 +14,10 @@ has_bit ws n = bit_of (slice_index ws (n / 64)) (n % 64)
 -- the numbers whose bits are set, ascending
 unfoldable pub numbers_of : List ℕ → List ℕ
 numbers_of ws = filter (has_bit ws) (range_with_len 0 (64 * length ws))
+
+-- the numbers of the word at an index, ascending
+abbrev pub numbers_at : ℕ → ℕ → List ℕ
+numbers_at i word = map (λ j. 64 * i + j) (numbers_of (word ∷ []))
 
 -- the words are as many as a room takes, and have no bit at the room or above
 pub record AreWords (room : ℕ) (ws : List ℕ) : Type 0 where

@@ -1,6 +1,7 @@
-ghost use Rattle.std.specs.Prelude.{◌≡◌, ◌+◌, ◌^◌, ◌<◌, ◌≤◌, ◌↔◌, [], ◌∷◌, length, IsTrue, IfOk, IfSome};
+// Sets of numbers below a room, as callers see them.
+ghost use Rattle.std.specs.Prelude.{◌≡◌, ◌+◌, ◌^◌, ◌<◌, ◌≤◌, ◌↔◌, [], ◌∷◌, length, false, IsTrue, IfOk, IfSome};
 ghost use Rattle.std.specs.List.{Contains};
-ghost use Rattle.mf_set.specs.Numbers.{has, IsAscendingFrom, IsBelow, with_number, without_number, union, meet, is_subset, first_common, next_from, numbers_from};
+ghost use Rattle.mf_set.specs.Numbers.{has, IsSet, with_number, without_number, union, meet, is_subset, first_common, next_from, numbers_from};
 
 mod order;
 
@@ -10,7 +11,7 @@ use std::marker::Model;
 
 /// A set of numbers below its room, which no call changes.
 ///
-/// Contracts see it as the ascending list of its numbers, with the room. It is kept as bits, so that a call that
+/// Contracts see it as the list of its numbers, with the room; each call says that they ascend below it. It is kept as bits, so that a call that
 /// goes over the whole set takes a step for each 64 numbers of the room.
 #[derive(Debug, Drop)]
 pub struct BitSet {
@@ -40,7 +41,8 @@ impl BitSet {
 
     /// The same set once more.
     pub fn copy(&self, alloc: Global) -> Result<BitSet, Memory>
-        ensures { IfOk result (λ s. s ≡ self.now) }
+        ensures copy { IfOk result (λ s. s ≡ self.now) }
+        ensures set { IsSet self.now }
     {
         let words = Vec::from_slice(alloc, self.words.as_slice())?;
         Ok(BitSet {
@@ -52,22 +54,23 @@ impl BitSet {
     /// The bound of the numbers.
     pub fn room(&self) -> usize
         ensures room { result ≡ self.now.room }
-        ensures ascending { IsAscendingFrom 0 self.now.items }
-        ensures below { IsBelow self.now.room self.now.items }
+        ensures set { IsSet self.now }
     {
         self.room
     }
 
     pub fn insert(&mut self, k: usize)
         requires { k < self.old.room }
-        ensures { self.new ≡ record self.old { items = with_number self.old.items k } }
+        ensures numbers { self.new ≡ record self.old { items = with_number self.old.items k } }
+        ensures set { IsSet self.new }
     {
         words::insert(self.words.as_mut_slice(), k);
     }
 
     pub fn remove(&mut self, k: usize)
         requires { k < self.old.room }
-        ensures { self.new ≡ record self.old { items = without_number self.old.items k } }
+        ensures numbers { self.new ≡ record self.old { items = without_number self.old.items k } }
+        ensures set { IsSet self.new }
     {
         words::remove(self.words.as_mut_slice(), k);
     }
@@ -75,49 +78,65 @@ impl BitSet {
     pub fn contains(&self, k: usize) -> bool
         ensures value { result ≡ has self.now.items k }
         ensures member { IsTrue result ↔ Contains self.now.items k }
+        ensures set { IsSet self.now }
     {
         words::contains(self.words.as_slice(), k)
     }
 
-    /// Adds the numbers of another set.
-    pub fn union_with(&mut self, other: &BitSet)
-        requires { self.old.room ≡ other.now.room }
-        ensures { self.new ≡ record self.old { items = union self.old.items other.now.items } }
+    /// Takes all numbers away.
+    pub fn clear(&mut self)
+        ensures { self.new ≡ record self.old { items = [] } }
     {
-        words::union_with(self.words.as_mut_slice(), other.words.as_slice());
+        self.words.fill(0);
     }
 
-    /// Keeps the numbers that another set has too.
-    pub fn meet_with(&mut self, other: &BitSet)
+    /// Adds the numbers of another set, and says whether one of them is new.
+    pub fn union_with(&mut self, other: &BitSet) -> bool
         requires { self.old.room ≡ other.now.room }
-        ensures { self.new ≡ record self.old { items = meet self.old.items other.now.items } }
+        ensures numbers { self.new ≡ record self.old { items = union self.old.items other.now.items } }
+        ensures changed { (result ≡ false) ↔ (self.new ≡ self.old) }
+        ensures set { IsSet self.new }
     {
-        words::meet_with(self.words.as_mut_slice(), other.words.as_slice());
+        words::union_with(self.words.as_mut_slice(), other.words.as_slice())
+    }
+
+    /// Keeps the numbers that another set has too, and says whether one goes.
+    pub fn meet_with(&mut self, other: &BitSet) -> bool
+        requires { self.old.room ≡ other.now.room }
+        ensures numbers { self.new ≡ record self.old { items = meet self.old.items other.now.items } }
+        ensures changed { (result ≡ false) ↔ (self.new ≡ self.old) }
+        ensures set { IsSet self.new }
+    {
+        words::meet_with(self.words.as_mut_slice(), other.words.as_slice())
     }
 
     /// Whether another set, of whatever room, has each number of this one.
     pub fn is_subset(&self, other: &BitSet) -> bool
-        ensures { result ≡ is_subset self.now.items other.now.items }
+        ensures value { result ≡ is_subset self.now.items other.now.items }
+        ensures set { IsSet self.now }
     {
         words::is_subset(self.words.as_slice(), other.words.as_slice())
     }
 
     /// The least number that another set, of whatever room, has too.
     pub fn first_common(&self, other: &BitSet) -> Option<usize>
-        ensures { result ≡ first_common self.now.items other.now.items }
+        ensures value { result ≡ first_common self.now.items other.now.items }
+        ensures set { IsSet self.now }
     {
         words::first_common(self.words.as_slice(), other.words.as_slice())
     }
 
     pub fn is_empty(&self) -> bool
-        ensures { IsTrue result ↔ (self.now.items ≡ []) }
+        ensures empty { IsTrue result ↔ (self.now.items ≡ []) }
+        ensures set { IsSet self.now }
     {
         words::is_empty(self.words.as_slice())
     }
 
     /// How many numbers the set has.
     pub fn count(&self) -> usize
-        ensures { result ≡ length self.now.items }
+        ensures count { result ≡ length self.now.items }
+        ensures set { IsSet self.now }
     {
         words::count(self.words.as_slice())
     }
@@ -125,6 +144,7 @@ impl BitSet {
     /// The least number that is not below `from`.
     pub fn next_from(&self, from: usize) -> Option<usize>
         ensures value { result ≡ next_from self.now.items from }
+        ensures set { IsSet self.now }
         ensures within { IfSome result (λ n. (from ≤ n) × (n < self.now.room) × (n + 1 < 2 ^ 64)) }
 
         // The numbers from `from` on are the answer and those after it.
@@ -135,14 +155,11 @@ impl BitSet {
 
     /// The numbers, ascending.
     pub fn to_vec(&self, alloc: Global) -> Result<Vec<usize>, Memory>
-        ensures { IfOk result (λ v. v.items ≡ self.now.items) }
+        ensures numbers { IfOk result (λ v. v.items ≡ self.now.items) }
+        ensures set { IsSet self.now }
     {
-        let mut numbers = Vec::new(alloc);
-        let mut from = 0;
-        while let Some(number) = self.next_from(from) {
-            numbers.push(number)?;
-            from = number + 1;
-        }
+        let mut numbers = Vec::with_capacity(alloc, self.count())?;
+        words::push_all(&mut numbers, self.words.as_slice())?;
         Ok(numbers)
     }
 }

@@ -2,8 +2,6 @@
 #![tactic(auto)]
 
 mod bit_set;
-#[cfg(test)]
-mod tests;
 mod words;
 
 pub use bit_set::BitSet;

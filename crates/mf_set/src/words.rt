@@ -1,14 +1,15 @@
 // Sets of numbers in words of 64 bits: the number n has the bit n % 64 of the word n / 64.
-ghost use Rattle.std.specs.Prelude.{◌≡◌, ℕ, ◌+◌, ◌-◌, ◌*◌, ◌/◌, ◌%◌, ◌^◌, ◌<◌, ◌≤◌, ◌&&◌, ◌||◌, ◌==◌, ◌↔◌, not, true, [], length, reverse, slice_index, count_ones, nat_le, IsTrue};
+ghost use Rattle.std.specs.Prelude.{◌≡◌, ℕ, ◌+◌, ◌-◌, ◌*◌, ◌/◌, ◌%◌, ◌^◌, ◌<◌, ◌≤◌, ◌&&◌, ◌||◌, ◌==◌, ◌↔◌, not, true, false, [], ◌++◌, length, reverse, slice_index, count_ones, nat_le, IsTrue, OnOk};
 ghost use Rattle.std.specs.List.{flat_map, fold, sum_by};
 ghost use Rattle.std.specs.Ordering.{nat_cmp};
 ghost use Rattle.std.specs.Cmp.Lexicographic.{slice_cmp};
 ghost use Rattle.std.specs.Hash as fed;
-ghost use Rattle.mf_set.specs.Numbers.{words_of};
-ghost use Rattle.mf_set.specs.Words.{bit_of, has_bit, numbers_of, IsLeastOrNone};
+ghost use Rattle.mf_set.specs.Numbers.{words_of, pairs_of};
+ghost use Rattle.mf_set.specs.Words.{bit_of, has_bit, numbers_of, numbers_at, IsLeastOrNone};
 
+use std::alloc::AllocError;
 use std::cmp::Ordering;
-use std::hash::{Hash, Hasher};
+use std::hash::Hasher;
 
 // The bits of a word.
 pub const WORD_BITS: usize = 64;
@@ -51,22 +52,34 @@ pub fn is_empty(words: &[u64]) -> bool
     true
 }
 
-pub fn union_with(words: &mut [u64], other: &[u64])
+// Whether a bit changed.
+pub fn union_with(words: &mut [u64], other: &[u64]) -> bool
     requires { length words.old ≡ length other.now }
-    ensures { (n : ℕ) → has_bit words.new n ≡ (has_bit words.old n || has_bit other.now n) }
+    ensures bits { (n : ℕ) → has_bit words.new n ≡ (has_bit words.old n || has_bit other.now n) }
+    ensures changed { (result ≡ false) ↔ (numbers_of words.new ≡ numbers_of words.old) }
 {
+    let mut changed = false;
     for (i, word) in words.iter_mut().enumerate() {
-        *word |= other[i];
+        let joined = *word | other[i];
+        changed |= joined != *word;
+        *word = joined;
     }
+    changed
 }
 
-pub fn meet_with(words: &mut [u64], other: &[u64])
+// Whether a bit changed.
+pub fn meet_with(words: &mut [u64], other: &[u64]) -> bool
     requires { length words.old ≡ length other.now }
-    ensures { (n : ℕ) → has_bit words.new n ≡ (has_bit words.old n && has_bit other.now n) }
+    ensures bits { (n : ℕ) → has_bit words.new n ≡ (has_bit words.old n && has_bit other.now n) }
+    ensures changed { (result ≡ false) ↔ (numbers_of words.new ≡ numbers_of words.old) }
 {
+    let mut changed = false;
     for (i, word) in words.iter_mut().enumerate() {
-        *word &= other[i];
+        let common = *word & other[i];
+        changed |= common != *word;
+        *word = common;
     }
+    changed
 }
 
 pub fn is_subset(words: &[u64], other: &[u64]) -> bool
@@ -161,12 +174,43 @@ pub fn compare(words: &[u64], other: &[u64]) -> Ordering
     Ordering::Equal
 }
 
-// Feeds a hasher the words.
+// Appends the numbers of the word at an index.
+fn push_numbers(numbers: &mut Vec<usize>, index: usize, word: u64) -> Result<(), AllocError>
+    requires { 64 * index + 64 ≤ 2 ^ 64 }
+    ensures { OnOk result (numbers.new.items ≡ numbers.old.items ++ numbers_at index word) }
+{
+    let mut rest = word;
+    while rest != 0 {
+        let bit = rest.trailing_zeros() as usize;
+        numbers.push(WORD_BITS * index + bit)?;
+        rest &= !(1 << bit);
+    }
+    Ok(())
+}
+
+// Appends the numbers of all words.
+pub fn push_all(numbers: &mut Vec<usize>, words: &[u64]) -> Result<(), AllocError>
+    requires empty { numbers.old.items ≡ [] }
+    requires fits { 64 * length words.now ≤ 2 ^ 64 }
+    ensures { OnOk result (numbers.new.items ≡ numbers_of words.now) }
+{
+    for (i, word) in words.iter().enumerate() {
+        push_numbers(numbers, i, *word)?;
+    }
+    Ok(())
+}
+
+// Feeds a hasher the words, two by two.
 pub fn hash<H: Hasher>(words: &[u64], state: &mut H)
     ensures { let fed_words = words_of (length words.now) (numbers_of words.now) in
-        state.new ≡ fold H.write state.old (flat_map fed.u64 fed_words) }
+        state.new ≡ fold H.write state.old (flat_map fed.u128 (pairs_of fed_words)) }
 {
-    for word in words {
-        word.hash(state);
+    let mut rest = words;
+    while let [low, high, others @ ..] = rest {
+        state.write_u128(*low as u128 + ((*high as u128) << 64));
+        rest = others;
+    }
+    if let [last] = rest {
+        state.write_u128(*last as u128);
     }
 }

@@ -1,3 +1,4 @@
+// Tables and their look-ups.
 ghost use Rattle.std.specs.Prelude.{◌≡◌, length};
 ghost use Rattle.std.specs.Ordering.{nat_cmp, is_lt};
 ghost use Rattle.std.specs.Cmp.Lexicographic.{slice_cmp};
@@ -19,8 +20,8 @@ pub struct Table<const N: usize> {
 }
 
 impl<const N: usize> Table<N> {
-    ghost use Rattle.std.specs.Prelude.{IsTrue};
-    ghost use Rattle.mf_tables.specs.Table.{ascends, number_of};
+    ghost use Rattle.std.specs.Prelude.{IsTrue, option_map};
+    ghost use Rattle.mf_tables.specs.Table.{ascends, number_of, word_of};
 
     /// Whether each word comes before the next, by bytes.
     pub fn is_sorted(&self) -> bool
@@ -32,6 +33,18 @@ impl<const N: usize> Table<N> {
             }
         }
         true
+    }
+
+    /// The word of the first row with a number, in whatever order the rows stand.
+    pub fn word_of(&self, number: u16) -> Option<&'static [u8]>
+        ensures { option_map (λ w. w.now) result ≡ word_of number self.now.rows.now }
+    {
+        for row in self.rows {
+            if row.number == number {
+                return Some(row.word);
+            }
+        }
+        None
     }
 
     /// The number of a word, by a binary search.

@@ -1,6 +1,6 @@
 use Rattle.c_lexer.proofs.Answered.{ok_answered}
 use Rattle.c_lexer.proofs.Total.{reading_of}
-use Rattle.c_lexer.proofs.Unique.{gives_for, is_answer_for}
+use Rattle.c_lexer.proofs.Unique.{reading_unique, gives_for, is_answer_for}
 use Rattle.c_lexer.proofs.answer.lex.Goals as goal
 
 pub returns-clause-read : goal.returns-clause-read
@@ -17,3 +17,9 @@ returns-in_err-reading-clause-some c = reading_of c.args.bytes.now
 
 pub returns-clause-some : goal.returns-clause-some
 returns-clause-some c = reading_of c.args.bytes.now
+
+pub returns-in_err-reading-clause-one : goal.returns-in_err-reading-clause-one
+returns-in_err-reading-clause-one c = reading_unique c.args.bytes.now
+
+pub returns-clause-one : goal.returns-clause-one
+returns-clause-one c = reading_unique c.args.bytes.now

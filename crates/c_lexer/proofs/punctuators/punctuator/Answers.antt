@@ -6,7 +6,7 @@ use Rattle.c_lexer.proofs.punctuators.punctuator.Goals as goal
 pub loop-n-init : goal.loop-n-init
 loop-n-init c = record {
   within = omega (arith, c.min-n.ensures);
-  longer = λ m above within. none_longer c.args.rest.now m (omega (arith, c.min-n.ensures)) within;
+  longer = λ m above within. none_longer c.args.rest.now m (omega (arith, c.min-n.ensures, c.most_bytes.ensures)) within;
 }
 
 pub loop-n-preserved : goal.loop-n-preserved

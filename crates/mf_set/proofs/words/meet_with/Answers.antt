@@ -1,6 +1,13 @@
-use Rattle.std.proofs.Common.{arith}
+use Rattle.std.proofs.Common.{ℕ, ◌<◌, ◌^◌, rules, bit_and, get_or, arith}
 use Rattle.mf_set.proofs.WordLaws.{has_bit-meet}
+use Rattle.mf_set.proofs.InverseLaws.{Changes-numbers}
+use Rattle.std.proofs.lemmas.Nat.{and_le_l}
 use Rattle.mf_set.proofs.words.meet_with.Goals as goal
 
-pub returns : goal.returns
-returns c = has_bit-meet c.args.words.now c.args.other.now c.loop-i.words c.loop-i.i c.requires (omega arith) c.loop-i.invariant
+pub returns-clause-bits : goal.returns-clause-bits
+returns-clause-bits c = has_bit-meet c.args.words.now c.args.other.now c.loop-i.words c.loop-i.i c.requires (omega arith) c.loop-i.invariant.combined
+
+pub returns-clause-changed : goal.returns-clause-changed
+returns-clause-changed c =
+    let old : (k : ℕ) → get_or c.args.words.now k 0 < 2 ^ 64 = search rules in
+    Changes-numbers bit_and (λ a b p q. omega (arith, and_le_l a b)) c.args.words.now c.args.other.now c.loop-i.words c.loop-i.changed c.loop-i.i old (λ k. (c.type_inv.other k).fits) c.loop-i.auto.words c.loop-i-test.false c.loop-i.invariant.combined c.loop-i.invariant.changes

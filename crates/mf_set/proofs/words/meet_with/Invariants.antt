@@ -1,7 +1,10 @@
 use Rattle.std.proofs.Common.{bit_and}
-use Rattle.mf_set.proofs.WordLaws.{Combines}
+use Rattle.mf_set.proofs.WordLaws.{Combines, Changes}
 use Rattle.mf_set.proofs.words.meet_with.Given as goal
 
 -- the words below i are combined, and the others are as they were
 abbrev pub invariant-loop-i : goal.invariant-loop-i
-invariant-loop-i l = Combines bit_and l.fn.words l.other l.words l.i
+invariant-loop-i l = record {
+  combined : Combines bit_and l.fn.words l.other l.words l.i;
+  changes : Changes bit_and l.fn.words l.other l.changed l.i;
+}

@@ -2,7 +2,7 @@ use Rattle.std.proofs.Common.{length, leb, ap, ◌∙◌, arith}
 use Rattle.mf_set.specs.Numbers.{Numbers}
 use Rattle.mf_set.specs.Words.{numbers_of}
 use Rattle.std.specs.List.{find}
-use Rattle.mf_set.proofs.SetLaws.{bits_fit, next_from_is, next_within, next_rest}
+use Rattle.mf_set.proofs.SetLaws.{bits_fit, next_from_is, next_within, next_rest, is_set}
 use Rattle.mf_set.proofs.bit_set.BitSet.next_from.Goals as goal
 
 pub next_from-requires : goal.next_from-requires
@@ -19,3 +19,6 @@ returns-clause-within c = next_within c.self.inside.room c.self.inside.words.ite
 
 pub returns-clause-rest : goal.returns-clause-rest
 returns-clause-rest c = next_rest c.self.inside.room c.self.inside.words.items c.args.self.now c.args.from c.next_from.result c.self.view_is (returns-clause-value c)
+
+pub returns-clause-set : goal.returns-clause-set
+returns-clause-set c = is_set c.self.inside.room c.self.inside.words.items c.args.self.now c.self.invariant c.self.view_is

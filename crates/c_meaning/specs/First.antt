@@ -1,0 +1,2 @@
+-- Definitions that speak of straight programs alone.
+pub mod Frees

@@ -1,0 +1,17 @@
+pub mod Term
+pub mod Expressions
+pub mod Declarators
+pub mod Statements
+pub mod Blocks
+pub mod Grammar
+pub mod Recogniser
+pub mod ReadExpressions
+pub mod ReadStatements
+pub mod ReadBlocks
+pub mod ReadFile
+pub mod Alike
+pub mod Printed
+pub mod Answer
+pub mod Turns
+pub mod Loops
+pub mod FileLoops

@@ -1,0 +1,50 @@
+-- The calls of a part are those of its parts in turn.
+use Rattle.std.proofs.Common.{◌≡◌, ℕ, ◌+◌, ◌<◌, List, [], ◌∷◌, ◌++◌, length, get_or, take, map, flat_map, Option, Some, None, sym, ap, ◌∙◌, arith, append-nil, append_assoc}
+use Rattle.std.proofs.lemmas.List.{take_more, length-take-le}
+use Rattle.std.proofs.lemmas.List.Folds.{flat_map-map}
+use Rattle.c_tree.specs.declared.program.Arm.{Arm}
+use Rattle.c_tree.specs.declared.program.Block.{Block, out-Block, fold_out-Block}
+use Rattle.c_tree.specs.declared.program.ForHead.{ForHead}
+use Rattle.c_tree.specs.declared.program.FunDef.{FunDef}
+use Rattle.c_tree.specs.declared.program.Item.{fold-roll-Item}
+use Rattle.c_tree.specs.declared.program.Item.TheVariants as item
+use Rattle.c_tree.specs.declared.program.Item.TheOpen.{If, For}
+use Rattle.c_types.specs.UserCalls.{Here, item_calls, arm_calls, block_calls, piece_calls, head_calls, from_option, calls_in, piece_calls_in, item_calls_in, arm_calls_in, calls_from}
+
+pub block_opens : (f : ℕ) (b : Block) → calls_in f b ≡ flat_map (piece_calls_in f) (out-Block b).items
+block_opens f b = fold_out-Block Here Here Here Here (item_calls f) arm_calls block_calls piece_calls b ∙ flat_map-map (λ c. c) (piece_calls_in f) (out-Block b).items
+
+if_none_opens : (f : ℕ) (arms : List Arm) → item_calls_in f (item.If arms None) ≡ flat_map (arm_calls_in f) arms
+if_none_opens f arms =
+    ap (item_calls_in f) (sym (item.rolls-If arms None))
+    ∙ fold-roll-Item Here Here Here Here (item_calls f) arm_calls block_calls piece_calls (If arms None)
+    ∙ append-nil (flat_map (λ c. c) (map (arm_calls_in f) arms))
+    ∙ flat_map-map (λ c. c) (arm_calls_in f) arms
+
+if_some_opens : (f : ℕ) (arms : List Arm) (last : Block) → item_calls_in f (item.If arms (Some last)) ≡ flat_map (arm_calls_in f) arms ++ calls_in f last
+if_some_opens f arms last =
+    ap (item_calls_in f) (sym (item.rolls-If arms (Some last)))
+    ∙ fold-roll-Item Here Here Here Here (item_calls f) arm_calls block_calls piece_calls (If arms (Some last))
+    ∙ ap (λ cs. cs ++ calls_in f last) (flat_map-map (λ c. c) (arm_calls_in f) arms)
+
+pub if_opens : (f : ℕ) (arms : List Arm) (last : Option Block) → item_calls_in f (item.If arms last) ≡ flat_map (arm_calls_in f) arms ++ from_option (calls_in f) last
+if_opens f arms None = if_none_opens f arms ∙ sym (append-nil (flat_map (arm_calls_in f) arms))
+if_opens f arms (Some last) = if_some_opens f arms last
+
+pub for_opens : (f : ℕ) (head : ForHead) (body : Block) → item_calls_in f (item.For head body) ≡ head_calls f head ++ calls_in f body
+for_opens f head body =
+    ap (item_calls_in f) (sym (item.rolls-For head body))
+    ∙ fold-roll-Item Here Here Here Here (item_calls f) arm_calls block_calls piece_calls (For head body)
+
+from_append : (f : ℕ) (ds : List FunDef) (d : FunDef) → calls_from f (ds ++ d ∷ []) ≡ calls_from f ds ++ calls_in (f + length ds) d.body
+from_append f [] d = let e : f + 0 ≡ f = omega arith in rw e (append-nil (calls_in f d.body))
+from_append f (c ∷ ds) d =
+    let e : f + 1 + length ds ≡ f + length (c ∷ ds) = omega arith in
+    ap (λ xs. calls_in f c.body ++ xs) (from_append (f + 1) ds d ∙ ap (λ n. calls_from (f + 1) ds ++ calls_in n d.body) e)
+    ∙ sym (append_assoc (calls_in f c.body) (calls_from (f + 1) ds) (calls_in (f + length (c ∷ ds)) d.body))
+
+-- the calls of the functions so far, and those of the next
+pub from_more : (ds : List FunDef) (n : ℕ) (d : FunDef) → n < length ds → calls_from 0 (take (n + 1) ds) ≡ calls_from 0 (take n ds) ++ calls_in n (get_or ds n d).body
+from_more ds n d below =
+    let e : 0 + length (take n ds) ≡ n = omega (arith, length-take-le n ds (omega arith)) in
+    ap (calls_from 0) (take_more ds n d below) ∙ from_append 0 (take n ds) (get_or ds n d) ∙ ap (λ k. calls_from 0 (take n ds) ++ calls_in k (get_or ds n d).body) e

@@ -1,0 +1,5 @@
+//! Tests of `mf_set`.
+#![tactic(auto)]
+
+#[cfg(test)]
+mod tests;

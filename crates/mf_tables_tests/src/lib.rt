@@ -1,0 +1,5 @@
+//! Tests of `mf_tables`.
+#![tactic(auto)]
+
+#[cfg(test)]
+mod tests;

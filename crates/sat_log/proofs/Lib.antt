@@ -1,0 +1,4 @@
+pub mod ClashLaws
+pub mod Examples
+pub mod FactLaws
+pub mod LogLaws
