@@ -2,10 +2,10 @@
 use Rattle.std.proofs.Common.{◌≡◌, ℕ, List, Option, Some, None, Result, Ok, Err, IfOk, false, length, sym, refl, ap, subst}
 use Rattle.c_lexer.specs.declared.token.Token.{Token}
 use Rattle.c_lexer.specs.declared.token.Tokens.{Tokens}
-use Rattle.c_lexer.specs.declared.piece.Fault.{Fault}
+use Rattle.c_lexer.specs.declared.element.Fault.{Fault}
 use Rattle.c_lexer.specs.declared.reading.Reading.{Reading}
 use Rattle.c_lexer.specs.declared.refusal.LexRefusal.{LexRefusal}
-use Rattle.c_lexer.specs.Scan.{Reads}
+use Rattle.c_lexer.specs.Scan.{IsReading}
 use Rattle.c_lexer.specs.Nest.{at_first, first_deep}
 use Rattle.c_lexer.specs.Outcome.{first_refused, unless_deep, unless_refused, unless_fault, AreTokens, IsAnswer}
 
@@ -23,7 +23,7 @@ tokens_answered bytes tokens answer = by_fault answer.reading.fault refl answer.
         let comment : answer.reading.last_comment ≡ tokens.last_comment = ap (λ t. t.last_comment) same in
         let reading = reading_is answer.reading tokens.list tokens.last_comment list comment clear in
         record {
-          reads = subst (Reads bytes) reading answer.reads;
+          reads = subst (IsReading bytes) reading answer.reads;
           size = sym (ap (λ t. t.size) same);
           none_refused = subst (λ ts. first_refused ts ≡ None) list none_refused;
           none_deep = subst (λ ts. first_deep false at_first ts ≡ None) list none_deep;

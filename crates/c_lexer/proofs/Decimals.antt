@@ -2,7 +2,7 @@
 use Rattle.std.proofs.Common.{◌≡◌, ℕ, suc, ◌<◌, ◌≤◌, List, [], ◌∷◌, None, length, get_or, drop, arith, drop-cons}
 use Rattle.std.specs.Prelude.{fold}
 use Rattle.std.proofs.lemmas.Bool.{cond-true, lt-ltb}
-use Rattle.c_lexer.specs.Pieces.{with_digit, int_of, greatest, decimal_value}
+use Rattle.c_lexer.specs.Elements.{with_digit, int_of, greatest, decimal_value}
 
 -- more digits make no smaller number
 grows : (digits : List ℕ) (value : ℕ) → value ≤ fold with_digit value digits

@@ -6,7 +6,7 @@ pub mod Scanned
 pub mod Unique
 pub mod Local
 pub mod LocalSpans
-pub mod LocalPiece
+pub mod LocalElement
 pub mod Passes
 pub mod LocalPasses
 pub mod UpTo

@@ -1,4 +1,4 @@
--- A piece at the front of a text doesn't depend on what follows it, where a blank does.
+-- An element at the front of a text doesn't depend on what follows it, where a blank does.
 use Rattle.std.proofs.Common.{◌≡◌, ℕ, zero, suc, ◌+◌, ◌<◌, ◌≤◌, Bool, true, false, ◌||◌, cond, List, [], ◌∷◌, ◌++◌, Option, Some, None, length, take, nat_eq, not, sym, refl, ap, ◌∙◌, subst, ⊎_elim, arith, length-append}
 use Rattle.std.specs.Prelude.{◌==◌, nat_le}
 use Rattle.std.specs.List.{prefix_len, list_all}
@@ -6,16 +6,16 @@ use Rattle.std.specs.Cmp.Lexicographic.{pointwise}
 use Rattle.std.proofs.lemmas.Bool.{and_parts, or_cases, or_left, or_right, cond-true, cond-false, cases_Bool, cases_lt, eqb-true, leb-true, false≢true, true≢false}
 use Rattle.std.proofs.lemmas.Bool.Decides.{nat_tests}
 use Rattle.std.proofs.lemmas.List.{take-append-le}
-use Rattle.c_lexer.specs.declared.piece.Piece.{Piece}
-use Rattle.c_lexer.specs.declared.piece.Piece.TheVariants as piece
-use Rattle.c_lexer.specs.declared.piece.Quote.{Quote}
-use Rattle.c_lexer.specs.declared.piece.Quote.TheVariants.{Double, Single}
-use Rattle.c_lexer.specs.declared.piece.Next.{Next}
-use Rattle.c_lexer.specs.declared.piece.Next.TheVariants.{Plain, Escape, Close, LineEnd, NoByte, NoEscape}
+use Rattle.c_lexer.specs.declared.element.Element.{Element}
+use Rattle.c_lexer.specs.declared.element.Element.TheVariants as element
+use Rattle.c_lexer.specs.declared.element.Quote.{Quote}
+use Rattle.c_lexer.specs.declared.element.Quote.TheVariants.{Double, Single}
+use Rattle.c_lexer.specs.declared.element.Next.{Next}
+use Rattle.c_lexer.specs.declared.element.Next.TheVariants.{Plain, Escape, Close, LineEnd, NoByte, NoEscape}
 use Rattle.c_lexer.specs.declared.token.Kind.TheVariants as kind
 use Rattle.c_lexer.specs.Bytes.{within, is_blank, is_word_byte, is_number_byte}
-use Rattle.c_lexer.specs.Words.{punctuator_kind, place_of, punctuator, refused_punctuator, punctuators, refused_punctuators, or_else, as_kind, kind_of_word}
-use Rattle.c_lexer.specs.Pieces.{Spells, none, plain, escape, next_of, escape_next, quote_byte, allowed, escaped, or_zero, is_zero_escape, word_piece, number_piece, number_by, IsQuoted, text_piece, character_piece, IsPunctuator}
+use Rattle.c_lexer.specs.Words.{punctuator_kind, row_of, punctuator, refused_punctuator, punctuators, refused_punctuators, or_else, as_kind, kind_of_word}
+use Rattle.c_lexer.specs.Elements.{CharSequence, none, plain, escape, next_of, escape_next, quote_byte, allowed, escaped, or_zero, is_zero_escape, word_element, number_element, number_by, IsQuoted, text_element, character_element, IsPunctuator}
 use Rattle.c_lexer.specs.Scan.{width, GoesOn}
 
 -- ---- blanks
@@ -50,13 +50,13 @@ run_same test (x ∷ w) s t b fails within =
     (λ stops. cond-false (test x) (1 + prefix_len test (w ++ b ∷ t)) 0 stops ∙ sym (cond-false (test x) (1 + prefix_len test (w ++ s)) 0 stops))
     (cases_Bool (test x))
 
-pub word_same : (w s t : List ℕ) (b : ℕ) → is_blank b ≡ true → prefix_len is_word_byte (w ++ s) ≤ length w → word_piece (w ++ b ∷ t) ≡ word_piece (w ++ s)
+pub word_same : (w s t : List ℕ) (b : ℕ) → is_blank b ≡ true → prefix_len is_word_byte (w ++ s) ≤ length w → word_element (w ++ b ∷ t) ≡ word_element (w ++ s)
 word_same w s t b blank within =
     let n = prefix_len is_word_byte (w ++ s) in
-    ap (λ m. piece.Lexeme (kind_of_word (take m (w ++ b ∷ t))) m) (run_same is_word_byte w s t b (low_no_word b (blank_low b blank)) within)
-    ∙ ap (λ u. piece.Lexeme (kind_of_word u) n) (front_same w (b ∷ t) s n within)
+    ap (λ m. element.Lexeme (kind_of_word (take m (w ++ b ∷ t))) m) (run_same is_word_byte w s t b (low_no_word b (blank_low b blank)) within)
+    ∙ ap (λ u. element.Lexeme (kind_of_word u) n) (front_same w (b ∷ t) s n within)
 
-pub number_same : (w s t : List ℕ) (b : ℕ) → is_blank b ≡ true → prefix_len is_number_byte (w ++ s) ≤ length w → number_piece (w ++ b ∷ t) ≡ number_piece (w ++ s)
+pub number_same : (w s t : List ℕ) (b : ℕ) → is_blank b ≡ true → prefix_len is_number_byte (w ++ s) ≤ length w → number_element (w ++ b ∷ t) ≡ number_element (w ++ s)
 number_same w s t b blank within =
     let n = prefix_len is_number_byte (w ++ s) in
     ap (λ m. number_by (take m (w ++ b ∷ t)) m) (run_same is_number_byte w s t b (low_no_number b (blank_low b blank)) within)
@@ -98,21 +98,21 @@ escape_same : (quote : Quote) (y z : ℕ) (r r' : List ℕ) → escape_next quot
 escape_same Double y z r r' = refl
 escape_same Single y z r r' = refl
 
-spells_local : (quote : Quote) (w s t values : List ℕ) (n : ℕ) → Spells quote (w ++ s) values n Close → n + 1 ≤ length w → Spells quote (w ++ t) values n Close
-spells_local quote [] s t values n spelled within = absurd (omega arith)
-spells_local quote (x ∷ w) s t _ _ (none next last) within = none (next_alike quote x (w ++ s) (w ++ t) Close next (λ e. absurd (escape_close quote (w ++ s) e))) tt
-spells_local quote (x ∷ w) s t _ _ (plain {b = b} {n = n} next rest) within =
-    plain (next_alike quote x (w ++ s) (w ++ t) (Plain b) next (λ e. absurd (escape_plain quote (w ++ s) b e))) (spells_local quote w s t _ n rest (omega arith))
-spells_local quote (x ∷ []) s t _ _ (escape {n = n} next rest) within = absurd (omega arith)
-spells_local quote (x ∷ y ∷ []) s t _ _ (escape {n = n} next rest) within = absurd (omega arith)
-spells_local quote (x ∷ y ∷ z ∷ w) s t _ _ (escape {b = b} {n = n} next rest) within =
-    escape (next_alike quote x (y ∷ z ∷ (w ++ s)) (y ∷ z ∷ (w ++ t)) (Escape b) next (λ e. escape_same quote y z (w ++ t) (w ++ s) ∙ e)) (spells_local quote (z ∷ w) s t _ n rest (omega arith))
+sequence_local : (quote : Quote) (w s t values : List ℕ) (n : ℕ) → CharSequence quote (w ++ s) values n Close → n + 1 ≤ length w → CharSequence quote (w ++ t) values n Close
+sequence_local quote [] s t values n spelled within = absurd (omega arith)
+sequence_local quote (x ∷ w) s t _ _ (none next last) within = none (next_alike quote x (w ++ s) (w ++ t) Close next (λ e. absurd (escape_close quote (w ++ s) e))) tt
+sequence_local quote (x ∷ w) s t _ _ (plain {b = b} {n = n} next rest) within =
+    plain (next_alike quote x (w ++ s) (w ++ t) (Plain b) next (λ e. absurd (escape_plain quote (w ++ s) b e))) (sequence_local quote w s t _ n rest (omega arith))
+sequence_local quote (x ∷ []) s t _ _ (escape {n = n} next rest) within = absurd (omega arith)
+sequence_local quote (x ∷ y ∷ []) s t _ _ (escape {n = n} next rest) within = absurd (omega arith)
+sequence_local quote (x ∷ y ∷ z ∷ w) s t _ _ (escape {b = b} {n = n} next rest) within =
+    escape (next_alike quote x (y ∷ z ∷ (w ++ s)) (y ∷ z ∷ (w ++ t)) (Escape b) next (λ e. escape_same quote y z (w ++ t) (w ++ s) ∙ e)) (sequence_local quote (z ∷ w) s t _ n rest (omega arith))
 
--- a piece between quotes that others follow is closed
-abbrev pub Closed : (List ℕ → ℕ → Next → Piece) → Type 0
+-- an element between quotes that others follow is closed
+abbrev pub Closed : (List ℕ → ℕ → Next → Element) → Type 0
 Closed make = (values : List ℕ) (n : ℕ) (end : Next) → GoesOn (make values n end) → (end ≡ Close) × (width (make values n end) ≡ n + 2)
 
-pub text_closed : Closed text_piece
+pub text_closed : Closed text_element
 text_closed values n Close goes = (refl, refl)
 text_closed values n (Plain b) goes = absurd goes
 text_closed values n (Escape b) goes = absurd goes
@@ -120,7 +120,7 @@ text_closed values n LineEnd goes = absurd goes
 text_closed values n NoByte goes = absurd goes
 text_closed values n NoEscape goes = absurd goes
 
-pub character_closed : Closed character_piece
+pub character_closed : Closed character_element
 character_closed [] n Close goes = absurd goes
 character_closed (b ∷ []) n Close goes = (refl, refl)
 character_closed (b ∷ c ∷ values) n Close goes = absurd goes
@@ -130,15 +130,15 @@ character_closed values n LineEnd goes = absurd goes
 character_closed values n NoByte goes = absurd goes
 character_closed values n NoEscape goes = absurd goes
 
-pub quoted_local : (quote : Quote) (make : List ℕ → ℕ → Next → Piece) → Closed make → (x : ℕ) (w s t : List ℕ) (p : Piece) → GoesOn p → width p ≤ length (x ∷ w) → IsQuoted quote make (x ∷ w ++ s) p → IsQuoted quote make (x ∷ w ++ t) p
+pub quoted_local : (quote : Quote) (make : List ℕ → ℕ → Next → Element) → Closed make → (x : ℕ) (w s t : List ℕ) (p : Element) → GoesOn p → width p ≤ length (x ∷ w) → IsQuoted quote make (x ∷ w ++ s) p → IsQuoted quote make (x ∷ w ++ t) p
 quoted_local quote make closed x w s t p goes within quoted =
     let parts = closed quoted.values quoted.bytes quoted.end (subst GoesOn quoted.is goes) in
-    let spelled = subst (λ end. Spells quote (w ++ s) quoted.values quoted.bytes end) parts.0 quoted.spelled in
+    let spelled = subst (λ end. CharSequence quote (w ++ s) quoted.values quoted.bytes end) parts.0 quoted.spelled in
     record {
       values = quoted.values;
       bytes = quoted.bytes;
       end = Close;
-      spelled = spells_local quote w s t quoted.values quoted.bytes spelled (omega (arith, ap width quoted.is, parts.1));
+      spelled = sequence_local quote w s t quoted.values quoted.bytes spelled (omega (arith, ap width quoted.is, parts.1));
       is = quoted.is ∙ ap (make quoted.values quoted.bytes) parts.0;
     }
 
@@ -158,13 +158,13 @@ pointwise_blank (x ∷ u) (y ∷ v) e =
     let tails = pointwise_blank u v parts.1 in
     ap (λ b. is_blank b || has_blank u) heads ∙ ap (λ r. is_blank y || r) tails
 
-blank_no_place : (word : List ℕ) (number : ℕ) (words : List (List ℕ)) → has_blank word ≡ true → list_all (λ u. not (has_blank u)) words ≡ true → place_of word number words ≡ None
+blank_no_place : (word : List ℕ) (number : ℕ) (words : List (List ℕ)) → has_blank word ≡ true → list_all (λ u. not (has_blank u)) words ≡ true → row_of word number words ≡ None
 blank_no_place word number [] blank clean = refl
 blank_no_place word number (first ∷ rest) blank clean =
     let parts = and_parts (not (has_blank first)) (list_all (λ u. not (has_blank u)) rest) clean in
     ⊎_elim
     (λ same. absurd (true≢false (sym parts.0 ∙ ap not (pointwise_blank first word same ∙ blank))))
-    (λ other. cond-false (pointwise nat_eq first word) (Some number) (place_of word (number + 1) rest) other ∙ blank_no_place word (number + 1) rest blank parts.1)
+    (λ other. cond-false (pointwise nat_eq first word) (Some number) (row_of word (number + 1) rest) other ∙ blank_no_place word (number + 1) rest blank parts.1)
     (cases_Bool (pointwise nat_eq first word))
 
 blank_is_none : (word : List ℕ) → has_blank word ≡ true → punctuator_kind word ≡ None
@@ -178,8 +178,8 @@ reaches_blank w t b zero blank past = absurd (omega arith)
 reaches_blank [] t b (suc m) blank past = or_left (is_blank b) (has_blank (take m t)) blank
 reaches_blank (x ∷ w) t b (suc m) blank past = or_right (is_blank x) (has_blank (take m (w ++ b ∷ t))) (reaches_blank w t b m blank (omega arith))
 
-pub punctuator_local : (w s t : List ℕ) (b : ℕ) (p : Piece) → is_blank b ≡ true → GoesOn p → width p ≤ length w → IsPunctuator (w ++ s) p → IsPunctuator (w ++ b ∷ t) p
-punctuator_local w s t b (piece.Lexeme kind n) blank goes within is = (
+pub punctuator_local : (w s t : List ℕ) (b : ℕ) (p : Element) → is_blank b ≡ true → GoesOn p → width p ≤ length w → IsPunctuator (w ++ s) p → IsPunctuator (w ++ b ∷ t) p
+punctuator_local w s t b (element.Lexeme kind n) blank goes within is = (
   omega (arith, length-append w (b ∷ t)),
   ap punctuator_kind (front_same w (b ∷ t) s n within) ∙ is.1,
   λ m above inside.
@@ -188,8 +188,8 @@ punctuator_local w s t b (piece.Lexeme kind n) blank goes within is = (
       (λ upto. ap punctuator_kind (front_same w (b ∷ t) s m upto) ∙ is.2 m above (omega (arith, length-append w s)))
       (cases_lt (length w) m),
 )
-punctuator_local w s t b (piece.Bad fault at) blank goes within is = absurd goes
-punctuator_local w s t b piece.End blank goes within is = absurd is
-punctuator_local w s t b piece.Blank blank goes within is = absurd is
-punctuator_local w s t b (piece.Comment n) blank goes within is = absurd is
-punctuator_local w s t b (piece.Include n) blank goes within is = absurd is
+punctuator_local w s t b (element.Bad fault at) blank goes within is = absurd goes
+punctuator_local w s t b element.End blank goes within is = absurd is
+punctuator_local w s t b element.Blank blank goes within is = absurd is
+punctuator_local w s t b (element.Comment n) blank goes within is = absurd is
+punctuator_local w s t b (element.Include n) blank goes within is = absurd is

@@ -3,12 +3,12 @@ use Rattle.std.proofs.Common.{◌≡◌, ℕ, ◌+◌, ◌<◌, ◌≤◌, Bool,
 use Rattle.std.specs.Prelude.{codes, ◌⊎◌}
 use Rattle.std.specs.Cmp.Lexicographic.{pointwise}
 use Rattle.std.proofs.lemmas.Bool.{and_parts, or_cases, or_left, or_right, cond-true, cond-false, cases_Bool, eqb-true, false≢true}
-use Rattle.c_lexer.specs.declared.piece.Fault.TheVariants.{BadByte}
-use Rattle.c_lexer.specs.declared.piece.Stop.TheVariants as stop
-use Rattle.c_lexer.specs.declared.piece.Piece.{Piece}
-use Rattle.c_lexer.specs.declared.piece.Piece.TheVariants as piece
+use Rattle.c_lexer.specs.declared.element.Fault.TheVariants.{BadByte}
+use Rattle.c_lexer.specs.declared.element.Stop.TheVariants as stop
+use Rattle.c_lexer.specs.declared.element.Element.{Element}
+use Rattle.c_lexer.specs.declared.element.Element.TheVariants as element
 use Rattle.c_lexer.specs.Bytes.{begins, continues, continues_in_comment, star_continues, stops}
-use Rattle.c_lexer.specs.Pieces.{first_place, one_further, line_end, line_comment, include_line, block_end, block_comment}
+use Rattle.c_lexer.specs.Elements.{first_place, one_further, line_end, line_comment, include_line, block_end, block_comment}
 use Rattle.c_lexer.specs.Scan.{width, GoesOn}
 use Rattle.c_lexer.proofs.Local.{front_same}
 
@@ -131,25 +131,25 @@ block_looks a m (c ∷ d ∷ []) s t word within =
     let P : ℕ → Type 0 = λ x. stops stop.BlockComment (a ∷ x ∷ d ∷ s) ≡ stops stop.BlockComment (a ∷ x ∷ d ∷ t) in
     subst P (sym star) refl
 
--- ---- the pieces
+-- ---- the elements
 
 -- what a comment or an include line that others follow says of its end
 pub record EndsAt (body : List ℕ) (o : Option ℕ) (m : ℕ) : Type 0 where
   pub place : o ≡ Some m
   pub clear : continues (drop m body) ≡ false
 
-pub line_end_parts : (make : ℕ → Piece) (opening : ℕ) (body : List ℕ) (o : Option ℕ) → GoesOn (line_end make opening body o)
+pub line_end_parts : (make : ℕ → Element) (opening : ℕ) (body : List ℕ) (o : Option ℕ) → GoesOn (line_end make opening body o)
     → (line_end make opening body o ≡ make (opening + length body)) ⊎ ((m : ℕ) × EndsAt body o m × (line_end make opening body o ≡ make (opening + m)))
 line_end_parts make opening body None goes = inl refl
 line_end_parts make opening body (Some m) goes =
     ⊎_elim
-    (λ continued. absurd (subst GoesOn (cond-true (continues (drop m body)) (piece.Bad BadByte (opening + m)) (make (opening + m)) continued) goes))
-    (λ clear. inr (m, record { place = refl; clear = clear }, cond-false (continues (drop m body)) (piece.Bad BadByte (opening + m)) (make (opening + m)) clear))
+    (λ continued. absurd (subst GoesOn (cond-true (continues (drop m body)) (element.Bad BadByte (opening + m)) (make (opening + m)) continued) goes))
+    (λ clear. inr (m, record { place = refl; clear = clear }, cond-false (continues (drop m body)) (element.Bad BadByte (opening + m)) (make (opening + m)) clear))
     (cases_Bool (continues (drop m body)))
 
-line_end_at : (make : ℕ → Piece) (opening : ℕ) (body : List ℕ) (o : Option ℕ) (m : ℕ) → EndsAt body o m → line_end make opening body o ≡ make (opening + m)
+line_end_at : (make : ℕ → Element) (opening : ℕ) (body : List ℕ) (o : Option ℕ) (m : ℕ) → EndsAt body o m → line_end make opening body o ≡ make (opening + m)
 line_end_at make opening body o m at =
-    ap (line_end make opening body) at.place ∙ cond-false (continues (drop m body)) (piece.Bad BadByte (opening + m)) (make (opening + m)) at.clear
+    ap (line_end make opening body) at.place ∙ cond-false (continues (drop m body)) (element.Bad BadByte (opening + m)) (make (opening + m)) at.clear
 
 newline_clear : (xs : List ℕ) → begins xs (10 ∷ []) ≡ true → continues xs ≡ false
 newline_clear [] e = absurd (false≢true e)
@@ -192,7 +192,7 @@ line_stopped xs stopped clear =
     ⊎_elim (λ newline. newline) (λ continued. absurd (false≢true (sym clear ∙ continued))) (or_cases (begins xs (10 ∷ [])) (continues xs) stopped)
 
 -- a `//` comment with a byte of the front behind it
-pub line_local : (x y : ℕ) (w s t : List ℕ) (p : Piece) → GoesOn p → width p < length (x ∷ y ∷ w) → p ≡ line_comment (x ∷ y ∷ w ++ s) → p ≡ line_comment (x ∷ y ∷ w ++ t)
+pub line_local : (x y : ℕ) (w s t : List ℕ) (p : Element) → GoesOn p → width p < length (x ∷ y ∷ w) → p ≡ line_comment (x ∷ y ∷ w ++ s) → p ≡ line_comment (x ∷ y ∷ w ++ t)
 line_local x y w s t p goes room is =
     ⊎_elim
     (λ unended. absurd (omega (arith, ap width (is ∙ unended), length-append w s)))
@@ -201,27 +201,27 @@ line_local x y w s t p goes room is =
     let inside : m + 1 ≤ length w = omega (arith, ap width (is ∙ ended.2)) in
     let word = line_stopped (drop m (w ++ s)) (place_passes (stops stop.LineComment) (w ++ s) m ended.1.place) ended.1.clear in
     let at = stops_same (stops stop.LineComment) (10 ∷ []) newline_stops_line line_looks (omega arith) w s t m (record { place = ended.1.place; word = word }) inside in
-    is ∙ ended.2 ∙ sym (line_end_at piece.Comment 2 (w ++ t) (first_place (stops stop.LineComment) (w ++ t)) m (record { place = at.place; clear = newline_clear (drop m (w ++ t)) at.word })))
-    (line_end_parts piece.Comment 2 (w ++ s) (first_place (stops stop.LineComment) (w ++ s)) (subst GoesOn is goes))
+    is ∙ ended.2 ∙ sym (line_end_at element.Comment 2 (w ++ t) (first_place (stops stop.LineComment) (w ++ t)) m (record { place = at.place; clear = newline_clear (drop m (w ++ t)) at.word })))
+    (line_end_parts element.Comment 2 (w ++ s) (first_place (stops stop.LineComment) (w ++ s)) (subst GoesOn is goes))
 
 -- an include line with the newline or the two bytes of a comment behind it in the front
-pub include_local : (x : ℕ) (w s t : List ℕ) (p : Piece) → GoesOn p → width p < length (x ∷ w) → (begins (drop (width p) (x ∷ w ++ s)) (10 ∷ []) ≡ true) ⊎ (width p + 2 ≤ length (x ∷ w)) → p ≡ include_line (x ∷ w ++ s) → p ≡ include_line (x ∷ w ++ t)
+pub include_local : (x : ℕ) (w s t : List ℕ) (p : Element) → GoesOn p → width p < length (x ∷ w) → (begins (drop (width p) (x ∷ w ++ s)) (10 ∷ []) ≡ true) ⊎ (width p + 2 ≤ length (x ∷ w)) → p ≡ include_line (x ∷ w ++ s) → p ≡ include_line (x ∷ w ++ t)
 include_local x w s t p goes room behind is =
     ⊎_elim
     (λ unended. absurd (omega (arith, ap width (is ∙ unended), length-append w s)))
     (λ ended. at_end ended.0 ended.1 (is ∙ ended.2))
-    (line_end_parts piece.Include 1 (w ++ s) (first_place (stops stop.IncludeLine) (w ++ s)) (subst GoesOn is goes))
+    (line_end_parts element.Include 1 (w ++ s) (first_place (stops stop.IncludeLine) (w ++ s)) (subst GoesOn is goes))
   where
     same : (m : ℕ) (u : List ℕ) → ((xs : List ℕ) → begins xs u ≡ true → stops stop.IncludeLine xs ≡ true) → LooksNoFurther (stops stop.IncludeLine) u → 0 < length u → ((xs : List ℕ) → begins xs u ≡ true → continues xs ≡ false)
-        → first_place (stops stop.IncludeLine) (w ++ s) ≡ Some m → begins (drop m (w ++ s)) u ≡ true → m + length u ≤ length w → p ≡ piece.Include (1 + m) → p ≡ include_line (x ∷ w ++ t)
+        → first_place (stops stop.IncludeLine) (w ++ s) ≡ Some m → begins (drop m (w ++ s)) u ≡ true → m + length u ≤ length w → p ≡ element.Include (1 + m) → p ≡ include_line (x ∷ w ++ t)
     same m u stopped looks some clear place word inside p_is =
         let at = stops_same (stops stop.IncludeLine) u stopped looks some w s t m (record { place = place; word = word }) inside in
-        p_is ∙ sym (line_end_at piece.Include 1 (w ++ t) (first_place (stops stop.IncludeLine) (w ++ t)) m (record { place = at.place; clear = clear (drop m (w ++ t)) at.word }))
+        p_is ∙ sym (line_end_at element.Include 1 (w ++ t) (first_place (stops stop.IncludeLine) (w ++ t)) m (record { place = at.place; clear = clear (drop m (w ++ t)) at.word }))
 
-    at_newline : (m : ℕ) → EndsAt (w ++ s) (first_place (stops stop.IncludeLine) (w ++ s)) m → p ≡ piece.Include (1 + m) → begins (drop m (w ++ s)) (10 ∷ []) ≡ true → p ≡ include_line (x ∷ w ++ t)
+    at_newline : (m : ℕ) → EndsAt (w ++ s) (first_place (stops stop.IncludeLine) (w ++ s)) m → p ≡ element.Include (1 + m) → begins (drop m (w ++ s)) (10 ∷ []) ≡ true → p ≡ include_line (x ∷ w ++ t)
     at_newline m ended p_is word = same m (10 ∷ []) newline_stops_include include_line_looks (omega arith) newline_clear ended.place word (omega (arith, ap width p_is)) p_is
 
-    at_end : (m : ℕ) → EndsAt (w ++ s) (first_place (stops stop.IncludeLine) (w ++ s)) m → p ≡ piece.Include (1 + m) → p ≡ include_line (x ∷ w ++ t)
+    at_end : (m : ℕ) → EndsAt (w ++ s) (first_place (stops stop.IncludeLine) (w ++ s)) m → p ≡ element.Include (1 + m) → p ≡ include_line (x ∷ w ++ t)
     at_end m ended p_is =
         let next : drop (width p) (x ∷ w ++ s) ≡ drop m (w ++ s) = ap (λ n. drop n (x ∷ w ++ s)) (ap width p_is ∙ omega arith) ∙ drop_next m x (w ++ s) in
         ⊎_elim
@@ -238,31 +238,31 @@ include_local x w s t p goes room behind is =
         behind
 
 -- a `/* */` comment
-pub record BlockEnds (body : List ℕ) (m : ℕ) (p : Piece) : Type 0 where
+pub record BlockEnds (body : List ℕ) (m : ℕ) (p : Element) : Type 0 where
   pub clear : continues_in_comment body ≡ false
   pub at : StopsAt (stops stop.BlockComment) (codes "*/") body m
-  pub is : p ≡ piece.Comment (m + 4)
+  pub is : p ≡ element.Comment (m + 4)
 
--- the piece, from what stands behind its opening
-abbrev pub block_of : List ℕ → Piece
-block_of body = cond (continues_in_comment body) (piece.Bad BadByte 2) (block_end body (first_place (stops stop.BlockComment) body))
+-- the element, from what stands behind its opening
+abbrev pub block_of : List ℕ → Element
+block_of body = cond (continues_in_comment body) (element.Bad BadByte 2) (block_end body (first_place (stops stop.BlockComment) body))
 
-pub block_parts : (body : List ℕ) (p : Piece) → GoesOn p → p ≡ block_of body → (m : ℕ) × BlockEnds body m p
+pub block_parts : (body : List ℕ) (p : Element) → GoesOn p → p ≡ block_of body → (m : ℕ) × BlockEnds body m p
 block_parts body p goes is =
     ⊎_elim
-    (λ continued. absurd (subst GoesOn (is ∙ cond-true (continues_in_comment body) (piece.Bad BadByte 2) rest continued) goes))
-    (λ clear. ended clear (first_place (stops stop.BlockComment) body) refl (is ∙ cond-false (continues_in_comment body) (piece.Bad BadByte 2) rest clear))
+    (λ continued. absurd (subst GoesOn (is ∙ cond-true (continues_in_comment body) (element.Bad BadByte 2) rest continued) goes))
+    (λ clear. ended clear (first_place (stops stop.BlockComment) body) refl (is ∙ cond-false (continues_in_comment body) (element.Bad BadByte 2) rest clear))
     (cases_Bool (continues_in_comment body))
   where
-    rest : Piece
+    rest : Element
     rest = block_end body (first_place (stops stop.BlockComment) body)
 
     ended : continues_in_comment body ≡ false → (o : Option ℕ) → first_place (stops stop.BlockComment) body ≡ o → p ≡ block_end body o → (m : ℕ) × BlockEnds body m p
     ended clear None place p_is = absurd (subst GoesOn p_is goes)
     ended clear (Some m) place p_is =
         ⊎_elim
-        (λ word. (m, record { clear = clear; at = record { place = place; word = word }; is = p_is ∙ cond-true (begins (drop m body) (codes "*/")) (piece.Comment (m + 4)) (piece.Bad BadByte (m + 3)) word }))
-        (λ other. absurd (subst GoesOn (p_is ∙ cond-false (begins (drop m body) (codes "*/")) (piece.Comment (m + 4)) (piece.Bad BadByte (m + 3)) other) goes))
+        (λ word. (m, record { clear = clear; at = record { place = place; word = word }; is = p_is ∙ cond-true (begins (drop m body) (codes "*/")) (element.Comment (m + 4)) (element.Bad BadByte (m + 3)) word }))
+        (λ other. absurd (subst GoesOn (p_is ∙ cond-false (begins (drop m body) (codes "*/")) (element.Comment (m + 4)) (element.Bad BadByte (m + 3)) other) goes))
         (cases_Bool (begins (drop m body) (codes "*/")))
 
 block_clear_same : (w s t : List ℕ) (m : ℕ) → begins (drop m (w ++ s)) (codes "*/") ≡ true → m + 2 ≤ length w → continues_in_comment (w ++ s) ≡ continues_in_comment (w ++ t)
@@ -276,7 +276,7 @@ block_clear_same (c ∷ d ∷ []) s t m word within =
     let P : ℕ → Type 0 = λ x. continues_in_comment (x ∷ d ∷ s) ≡ continues_in_comment (x ∷ d ∷ t) in
     subst P (sym star) refl
 
-pub block_local : (x y : ℕ) (w s t : List ℕ) (p : Piece) → GoesOn p → width p ≤ length (x ∷ y ∷ w) → p ≡ block_comment (x ∷ y ∷ w ++ s) → p ≡ block_comment (x ∷ y ∷ w ++ t)
+pub block_local : (x y : ℕ) (w s t : List ℕ) (p : Element) → GoesOn p → width p ≤ length (x ∷ y ∷ w) → p ≡ block_comment (x ∷ y ∷ w ++ s) → p ≡ block_comment (x ∷ y ∷ w ++ t)
 block_local x y w s t p goes within is =
     let parts = block_parts (w ++ s) p goes is in
     let m = parts.0 in
@@ -284,6 +284,6 @@ block_local x y w s t p goes within is =
     let at = stops_same (stops stop.BlockComment) (codes "*/") end_stops_block block_looks (omega arith) w s t m parts.1.at inside in
     let clear : continues_in_comment (w ++ t) ≡ false = sym (block_clear_same w s t m parts.1.at.word inside) ∙ parts.1.clear in
     parts.1.is ∙ sym (
-    cond-false (continues_in_comment (w ++ t)) (piece.Bad BadByte 2) (block_end (w ++ t) (first_place (stops stop.BlockComment) (w ++ t))) clear
+    cond-false (continues_in_comment (w ++ t)) (element.Bad BadByte 2) (block_end (w ++ t) (first_place (stops stop.BlockComment) (w ++ t))) clear
     ∙ ap (block_end (w ++ t)) at.place
-    ∙ cond-true (begins (drop m (w ++ t)) (codes "*/")) (piece.Comment (m + 4)) (piece.Bad BadByte (m + 3)) at.word)
+    ∙ cond-true (begins (drop m (w ++ t)) (codes "*/")) (element.Comment (m + 4)) (element.Bad BadByte (m + 3)) at.word)

@@ -6,13 +6,13 @@ use Rattle.std.specs.Cmp.Lexicographic.{pointwise}
 use Rattle.std.proofs.lemmas.Bool.{cond-false, and_parts, leb-true, cases_lt, cases_Bool}
 use Rattle.std.proofs.lemmas.Bool.Decides.{Decides-eqb}
 use Rattle.std.proofs.lemmas.Slice.Eq.{slice_eq-Decides}
-use Rattle.c_lexer.specs.Words.{place_of, punctuators, refused_punctuators, punctuator_kind, punctuator, refused_punctuator, or_else, as_kind, most_bytes}
+use Rattle.c_lexer.specs.Words.{row_of, punctuators, refused_punctuators, punctuator_kind, punctuator, refused_punctuator, or_else, as_kind, most_bytes}
 use Rattle.c_lexer.specs.declared.token.Kind.TheVariants as kind
 
 abbrev all_short : List (List ℕ) → Bool
 all_short words = list_all (λ word. nat_le (length word) (most_bytes word)) words
 
-no_place : (word : List ℕ) (number : ℕ) (words : List (List ℕ)) → most_bytes word < length word → all_short words ≡ true → place_of word number words ≡ None
+no_place : (word : List ℕ) (number : ℕ) (words : List (List ℕ)) → most_bytes word < length word → all_short words ≡ true → row_of word number words ≡ None
 no_place word number [] long short = refl
 no_place word number (first ∷ rest) long short =
     let parts = and_parts (nat_le (length first) (most_bytes first)) (all_short rest) short in
@@ -20,7 +20,7 @@ no_place word number (first ∷ rest) long short =
     (λ same.
     let is : first ≡ word = (slice_eq-Decides Decides-eqb first word (pointwise nat_eq first word) refl).0 same in
     absurd (omega (arith, leb-true (length first) (most_bytes first) parts.0, ap length is, ap most_bytes is)))
-    (λ other. cond-false (pointwise nat_eq first word) (Some number) (place_of word (number + 1) rest) other ∙ no_place word (number + 1) rest long parts.1)
+    (λ other. cond-false (pointwise nat_eq first word) (Some number) (row_of word (number + 1) rest) other ∙ no_place word (number + 1) rest long parts.1)
     (cases_Bool (pointwise nat_eq first word))
 
 long_is_none : (word : List ℕ) → most_bytes word < length word → punctuator_kind word ≡ None

@@ -5,16 +5,16 @@ use Rattle.c_lexer.specs.declared.token.Kind.{Kind}
 use Rattle.c_lexer.specs.declared.token.Kind.TheVariants as kind
 use Rattle.c_lexer.specs.declared.token.Token.{Token}
 use Rattle.c_lexer.specs.declared.token.Tokens.{Tokens}
-use Rattle.c_lexer.specs.declared.piece.Piece.{Piece}
-use Rattle.c_lexer.specs.declared.piece.Piece.TheVariants as piece
+use Rattle.c_lexer.specs.declared.element.Element.{Element}
+use Rattle.c_lexer.specs.declared.element.Element.TheVariants as element
 use Rattle.c_lexer.specs.declared.reading.Reading.{Reading}
 use Rattle.c_lexer.specs.Bytes.{class_of}
-use Rattle.c_lexer.specs.Pieces.{IsPiece}
+use Rattle.c_lexer.specs.Elements.{IsElement}
 use Rattle.c_lexer.specs.Scan.{Scan, ends, goes_on, width, GoesOn, fresh_behind, last_reading, reading_from, HasTokens}
 use Rattle.c_lexer.specs.Outcome.{first_refused, refused_or, AreTokens}
-use Rattle.c_lexer.proofs.LocalPiece.{IsAccepted}
-use Rattle.c_lexer.proofs.LocalPasses.{NoneRefused, piece_some}
-use Rattle.c_lexer.proofs.Lexemes.{piece_within}
+use Rattle.c_lexer.proofs.LocalElement.{IsAccepted}
+use Rattle.c_lexer.proofs.LocalPasses.{NoneRefused, element_some}
+use Rattle.c_lexer.proofs.Lexemes.{element_within}
 
 -- the tokens stand in order from this offset on, up to the end of the text
 abbrev pub Ascends : ℕ → List Token → ℕ → Type 0
@@ -25,31 +25,31 @@ pub ascends_sooner : (from later : ℕ) (tokens : List Token) (size : ℕ) → f
 ascends_sooner from later [] size sooner ascends = omega (arith, ascends)
 ascends_sooner from later (token ∷ rest) size sooner ascends = (omega (arith, ascends.0), ascends.1, ascends.2)
 
--- the size of a text is the same from behind a piece on
+-- the size of a text is the same from behind an element on
 size_behind : (at n : ℕ) (xs : List ℕ) → n ≤ length xs → at + n + length (drop n xs) ≡ at + length xs
 size_behind at n xs within = omega (arith, length-drop n xs)
 
--- past one piece
-ascends_from : (fresh : Bool) (at : ℕ) (xs : List ℕ) (p : Piece) (r : Reading) (size : ℕ) → GoesOn p → IsPiece (class_of fresh xs) xs p → Ascends (at + width p) r.tokens size → Ascends at (reading_from at p r).tokens size
-ascends_from fresh at xs piece.End r size goes is ascends = absurd goes
-ascends_from fresh at xs (piece.Bad fault n) r size goes is ascends = absurd goes
-ascends_from fresh at xs piece.Blank r size goes is ascends = ascends_sooner at (at + 1) r.tokens size (omega arith) ascends
-ascends_from fresh at xs (piece.Comment n) r size goes is ascends = ascends_sooner at (at + n) r.tokens size (omega arith) ascends
-ascends_from fresh at xs (piece.Include n) r size goes is ascends = ascends_sooner at (at + n) r.tokens size (omega arith) ascends
-ascends_from fresh at xs (piece.Lexeme kind n) r size goes is ascends = (omega arith, omega (arith, piece_some fresh xs (piece.Lexeme kind n) goes is), ascends)
+-- past one element
+ascends_from : (fresh : Bool) (at : ℕ) (xs : List ℕ) (p : Element) (r : Reading) (size : ℕ) → GoesOn p → IsElement (class_of fresh xs) xs p → Ascends (at + width p) r.tokens size → Ascends at (reading_from at p r).tokens size
+ascends_from fresh at xs element.End r size goes is ascends = absurd goes
+ascends_from fresh at xs (element.Bad fault n) r size goes is ascends = absurd goes
+ascends_from fresh at xs element.Blank r size goes is ascends = ascends_sooner at (at + 1) r.tokens size (omega arith) ascends
+ascends_from fresh at xs (element.Comment n) r size goes is ascends = ascends_sooner at (at + n) r.tokens size (omega arith) ascends
+ascends_from fresh at xs (element.Include n) r size goes is ascends = ascends_sooner at (at + n) r.tokens size (omega arith) ascends
+ascends_from fresh at xs (element.Lexeme kind n) r size goes is ascends = (omega arith, omega (arith, element_some fresh xs (element.Lexeme kind n) goes is), ascends)
 
-last_ascends : (at size : ℕ) (p : Piece) → at ≤ size → Ascends at (last_reading at p).tokens size
-last_ascends at size piece.End within = within
-last_ascends at size piece.Blank within = within
-last_ascends at size (piece.Comment n) within = within
-last_ascends at size (piece.Include n) within = within
-last_ascends at size (piece.Lexeme kind n) within = within
-last_ascends at size (piece.Bad fault n) within = within
+last_ascends : (at size : ℕ) (p : Element) → at ≤ size → Ascends at (last_reading at p).tokens size
+last_ascends at size element.End within = within
+last_ascends at size element.Blank within = within
+last_ascends at size (element.Comment n) within = within
+last_ascends at size (element.Include n) within = within
+last_ascends at size (element.Lexeme kind n) within = within
+last_ascends at size (element.Bad fault n) within = within
 
 pub scan_ascends : (fresh : Bool) (at : ℕ) (xs : List ℕ) (r : Reading) → Scan fresh at xs r → Ascends at r.tokens (at + length xs)
 scan_ascends fresh at xs _ (ends p is last) = last_ascends at (at + length xs) p (omega arith)
 scan_ascends fresh at xs _ (goes_on {r = r} p is goes rest) =
-    let size = size_behind at (width p) xs (piece_within fresh xs p goes is) in
+    let size = size_behind at (width p) xs (element_within fresh xs p goes is) in
     ascends_from fresh at xs p r (at + length xs) goes is (subst (Ascends (at + width p) r.tokens) size (scan_ascends (fresh_behind fresh xs p) (at + width p) (drop (width p) xs) r rest))
 
 pub tokens_ascend : (bytes : List ℕ) (tokens : List Token) → HasTokens bytes tokens → Ascends 0 tokens (length bytes)

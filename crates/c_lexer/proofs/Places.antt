@@ -1,8 +1,7 @@
 -- The first place of a text that passes a test, found from left to right.
-use Rattle.std.proofs.Common.{◌≡◌, ℕ, suc, ◌+◌, ◌<◌, ◌≤◌, Bool, true, false, List, ◌∷◌, Some, None, Option, length, get_or, drop, sym, refl, ap, ◌∙◌, arith, drop-cons}
-use Rattle.std.proofs.lemmas.Bool.{cond-true, cond-false}
-use Rattle.std.proofs.lemmas.List.{drop_all}
-use Rattle.c_lexer.specs.Pieces.{first_place, one_further}
+use Rattle.std.proofs.Common.{◌≡◌, ℕ, suc, ◌+◌, ◌<◌, Bool, false, List, ◌∷◌, Some, None, Option, length, get_or, drop, sym, refl, ap, ◌∙◌, arith, drop-cons}
+use Rattle.std.proofs.lemmas.Bool.{cond-false}
+use Rattle.c_lexer.specs.Elements.{first_place, one_further}
 
 -- a place that was found from k on
 abbrev pub ahead : ℕ → Option ℕ → Option ℕ
@@ -13,16 +12,6 @@ ahead_further : (k : ℕ) (o : Option ℕ) → ahead k (one_further o) ≡ ahead
 ahead_further k None = refl
 ahead_further k (Some n) = ap Some (omega arith)
 
-pub ahead_zero : (o : Option ℕ) → ahead 0 o ≡ o
-ahead_zero None = refl
-ahead_zero (Some n) = ap Some (omega arith)
-
-pub place_here : (test : List ℕ → Bool) (xs : List ℕ) (i : ℕ) → i < length xs → test (drop i xs) ≡ true → ahead i (first_place test (drop i xs)) ≡ Some i
-place_here test xs i within passes =
-    let cut = drop-cons xs i 0 within in
-    let passes' : test (get_or xs i 0 ∷ drop (suc i) xs) ≡ true = rw cut at passes in
-    rw cut (rw (cond-true (test (get_or xs i 0 ∷ drop (suc i) xs)) (Some 0) (one_further (first_place test (drop (suc i) xs))) passes') (ap Some (omega arith)))
-
 pub place_further : (test : List ℕ → Bool) (xs : List ℕ) (i : ℕ) → i < length xs → test (drop i xs) ≡ false → ahead (i + 1) (first_place test (drop (i + 1) xs)) ≡ ahead i (first_place test (drop i xs))
 place_further test xs i within fails =
     let cut = drop-cons xs i 0 within in
@@ -32,6 +21,3 @@ place_further test xs i within fails =
   where
     ahead_further' : (k : ℕ) (o : Option ℕ) → ahead k (one_further o) ≡ ahead (suc k) o
     ahead_further' k o = ahead_further k o ∙ ap (λ m. ahead m o) (omega arith)
-
-pub place_past : (test : List ℕ → Bool) (xs : List ℕ) (i : ℕ) → length xs ≤ i → ahead i (first_place test (drop i xs)) ≡ None
-place_past test xs i past = rw (drop_all i xs past) refl

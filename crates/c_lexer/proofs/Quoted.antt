@@ -1,19 +1,16 @@
 -- What stands between quotes, found from left to right.
 use Rattle.std.proofs.Common.{◌≡◌, ℕ, ◌+◌, ◌≤◌, List, [], ◌∷◌, ◌++◌, length, drop, refl, arith, append_assoc, append-nil, length-drop}
 use Rattle.std.proofs.lemmas.List.{drop-drop}
-use Rattle.c_lexer.specs.declared.piece.Next.{Next}
-use Rattle.c_lexer.specs.declared.piece.Next.TheVariants.{Plain, Escape, Close, LineEnd, NoByte, NoEscape}
-use Rattle.c_lexer.specs.declared.piece.Quote.{Quote}
+use Rattle.c_lexer.specs.declared.element.Next.{Next}
+use Rattle.c_lexer.specs.declared.element.Next.TheVariants.{Plain, Escape, Close, LineEnd, NoByte, NoEscape}
+use Rattle.c_lexer.specs.declared.element.Quote.{Quote}
 use Rattle.c_lexer.specs.Opening.{Holds, Leaves}
-use Rattle.c_lexer.specs.Pieces.{next_of, Ends, Spells, none, plain, escape}
+use Rattle.c_lexer.specs.Elements.{next_of, Ends, CharSequence, none, plain, escape}
 
 -- what is spelled from here on is spelled from the start with what came before
 abbrev pub Continues : Quote → List ℕ → List ℕ → ℕ → Type 0
 Continues quote text front at =
-    (values : List ℕ) (n : ℕ) (end : Next) → Spells quote (drop at text) values n end → Spells quote text (front ++ values) (at + n) end
-
-pub from_start : (quote : Quote) (text : List ℕ) → Continues quote text [] 0
-from_start quote text values n end spelled = let e : 0 + n ≡ n = omega arith in rw e spelled
+    (values : List ℕ) (n : ℕ) (end : Next) → CharSequence quote (drop at text) values n end → CharSequence quote text (front ++ values) (at + n) end
 
 pub plain_more : (quote : Quote) (text front : List ℕ) (at b : ℕ) → Continues quote text front at → next_of quote (drop at text) ≡ Plain b → Continues quote text (front ++ b ∷ []) (at + 1)
 plain_more quote text front at b before next values n end spelled =
@@ -29,7 +26,7 @@ escape_more quote text front at b before next values n end spelled =
     let sum : at + 2 + n ≡ at + (2 + n) = omega arith in
     rw (sum, append_assoc) more
 
-pub at_end : (quote : Quote) (text front : List ℕ) (at : ℕ) (end : Next) → Continues quote text front at → next_of quote (drop at text) ≡ end → Ends end → Spells quote text front at end
+pub at_end : (quote : Quote) (text front : List ℕ) (at : ℕ) (end : Next) → Continues quote text front at → next_of quote (drop at text) ≡ end → Ends end → CharSequence quote text front at end
 at_end quote text front at end before next ends =
     let more = before [] 0 end (none next ends) in
     let sum : at + 0 ≡ at = omega arith in

@@ -1,10 +1,10 @@
 -- Classes of bytes (C99 5.2.1), and what begins at the front of a text.
 use Rattle.std.specs.Prelude.{ℕ, Bool, true, false, ◌&&◌, ◌||◌, ◌==◌, nat_le, List, [], ◌∷◌, if◌then◌else◌, nat_eq, codes, drop}
 use Rattle.std.specs.List.{starts_with, prefix_len}
-use Rattle.c_lexer.specs.declared.piece.Class.{Class}
-use Rattle.c_lexer.specs.declared.piece.Class.TheVariants as class
-use Rattle.c_lexer.specs.declared.piece.Stop.{Stop}
-use Rattle.c_lexer.specs.declared.piece.Stop.TheVariants as stop
+use Rattle.c_lexer.specs.declared.element.Class.{Class}
+use Rattle.c_lexer.specs.declared.element.Class.TheVariants as class
+use Rattle.c_lexer.specs.declared.element.Stop.{Stop}
+use Rattle.c_lexer.specs.declared.element.Stop.TheVariants as stop
 
 abbrev pub within : ℕ → ℕ → ℕ → Bool
 within low high b = nat_le low b && nat_le b high

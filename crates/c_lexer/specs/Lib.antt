@@ -1,7 +1,7 @@
 pub mod Bytes
 pub mod Opening
 pub mod Words
-pub mod Pieces
+pub mod Elements
 pub mod Scan
 pub mod Front
 pub mod Nest

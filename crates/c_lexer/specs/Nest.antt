@@ -3,8 +3,8 @@ use Rattle.std.specs.Prelude.{ℕ, ◌+◌, ◌-◌, Bool, true, false, ◌&&◌
 use Rattle.c_lexer.specs.declared.token.Token.{Token}
 use Rattle.c_lexer.specs.declared.token.Kind.{Kind}
 use Rattle.c_lexer.specs.declared.token.Kind.TheVariants as kind
-use Rattle.c_lexer.specs.declared.mark.Mark.{Mark}
-use Rattle.c_lexer.specs.declared.mark.Mark.TheVariants as mark
+use Rattle.c_lexer.specs.declared.role.Role.{Role}
+use Rattle.c_lexer.specs.declared.role.Role.TheVariants as role
 use Rattle.c_lexer.specs.Words.{key_word, punctuator}
 
 -- The list of counts is the outer ones and the last one. Besides there are the unclosed round and square brackets, and
@@ -42,27 +42,27 @@ abbrev pub next_is : List Token → List ℕ → Bool
 next_is [] text = false
 next_is (token ∷ rest) text = is_word token.kind text
 
-abbrev pub punctuator_mark : ℕ → Mark
-punctuator_mark number =
-    if punctuates number (codes "{") then mark.Opens
-    else (if punctuates number (codes "}") then mark.Closes
-    else (if punctuates number (codes ";") then mark.Ends
-    else (if punctuates number (codes "(") || punctuates number (codes "[") then mark.Bracket
-    else (if punctuates number (codes ")") || punctuates number (codes "]") then mark.CloseBracket
-    else (if punctuates number (codes ",") then mark.Nothing
-    else mark.Part)))))
+abbrev pub punctuator_role : ℕ → Role
+punctuator_role number =
+    if punctuates number (codes "{") then role.Opens
+    else (if punctuates number (codes "}") then role.Closes
+    else (if punctuates number (codes ";") then role.Ends
+    else (if punctuates number (codes "(") || punctuates number (codes "[") then role.Bracket
+    else (if punctuates number (codes ")") || punctuates number (codes "]") then role.CloseBracket
+    else (if punctuates number (codes ",") then role.Nothing
+    else role.Part)))))
 
 -- `while`, `for`, an `if` not directly behind `else`, an `else` not directly before `if`
-abbrev pub key_mark : Bool → ℕ → Bool → Mark
-key_mark after_else number before_if =
+abbrev pub key_role : Bool → ℕ → Bool → Role
+key_role after_else number before_if =
     if is_key number (codes "while") || is_key number (codes "for") || (is_key number (codes "if") && not after_else) || (is_key number (codes "else") && not before_if)
-    then mark.Counts
-    else mark.Nothing
+    then role.Counts
+    else role.Nothing
 
-abbrev pub mark_of : Bool → Kind → List Token → Mark
-mark_of after_else (kind.Punct number) rest = punctuator_mark number
-mark_of after_else (kind.Key number) rest = key_mark after_else number (next_is rest (codes "if"))
-mark_of after_else kind rest = mark.Nothing
+abbrev pub role_of : Bool → Kind → List Token → Role
+role_of after_else (kind.Punct number) rest = punctuator_role number
+role_of after_else (kind.Key number) rest = key_role after_else number (next_is rest (codes "if"))
+role_of after_else kind rest = role.Nothing
 
 -- the last count is taken off, unless it is the only one
 abbrev pub without_last : Nesting → Nesting
@@ -75,20 +75,20 @@ abbrev pub with_last : Bool → Nesting → Nesting
 with_last true n = n
 with_last false n = record n { last = 0 }
 
--- what a token changes; it stays, or not, directly before `else`
-abbrev pub changed : Mark → Bool → Nesting → Nesting
-changed mark.Opens before_else n = record { outer = n.outer ++ n.last ∷ []; last = 0; brackets = 0; parts = 0 }
-changed mark.Closes before_else n = with_last before_else (record (without_last n) { brackets = 0; parts = 0 })
-changed mark.Ends before_else n = with_last (before_else || not (n.brackets == 0)) (record n { parts = 0 })
-changed mark.Counts before_else n = record n { last = n.last + 1 }
-changed mark.Bracket before_else n = record n { brackets = n.brackets + 1; parts = n.parts + 1 }
-changed mark.CloseBracket before_else n = record n { brackets = n.brackets - 1 }
-changed mark.Part before_else n = record n { parts = n.parts + 1 }
-changed mark.Nothing before_else n = n
+-- behind a token of that role; the last count stays, or not, directly before `else`
+abbrev pub nesting_after : Role → Bool → Nesting → Nesting
+nesting_after role.Opens before_else n = record { outer = n.outer ++ n.last ∷ []; last = 0; brackets = 0; parts = 0 }
+nesting_after role.Closes before_else n = with_last before_else (record (without_last n) { brackets = 0; parts = 0 })
+nesting_after role.Ends before_else n = with_last (before_else || not (n.brackets == 0)) (record n { parts = 0 })
+nesting_after role.Counts before_else n = record n { last = n.last + 1 }
+nesting_after role.Bracket before_else n = record n { brackets = n.brackets + 1; parts = n.parts + 1 }
+nesting_after role.CloseBracket before_else n = record n { brackets = n.brackets - 1 }
+nesting_after role.Part before_else n = record n { parts = n.parts + 1 }
+nesting_after role.Nothing before_else n = n
 
 -- behind a token, which stands directly behind `else` or not, and before the rest
 abbrev pub behind : Bool → Token → List Token → Nesting → Nesting
-behind after_else token rest n = changed (mark_of after_else token.kind rest) (next_is rest (codes "else")) n
+behind after_else token rest n = nesting_after (role_of after_else token.kind rest) (next_is rest (codes "else")) n
 
 -- the greatest nest
 abbrev pub deepest : ℕ

@@ -1,12 +1,12 @@
 -- How many bytes a class has at least.
 use Rattle.std.specs.Prelude.{ℕ, ◌+◌, ◌<◌, ◌≤◌, List, length}
 use Rattle.std.specs.List.{prefix_len}
-use Rattle.c_lexer.specs.declared.piece.Class.{Class}
-use Rattle.c_lexer.specs.declared.piece.Class.TheVariants as class
-use Rattle.c_lexer.specs.declared.piece.Piece.{Piece}
-use Rattle.c_lexer.specs.declared.piece.Piece.TheVariants as piece
-use Rattle.c_lexer.specs.declared.piece.Next.{Next}
-use Rattle.c_lexer.specs.declared.piece.Next.TheVariants.{Plain, Escape, Close, LineEnd, NoByte, NoEscape}
+use Rattle.c_lexer.specs.declared.element.Class.{Class}
+use Rattle.c_lexer.specs.declared.element.Class.TheVariants as class
+use Rattle.c_lexer.specs.declared.element.Element.{Element}
+use Rattle.c_lexer.specs.declared.element.Element.TheVariants as element
+use Rattle.c_lexer.specs.declared.element.Next.{Next}
+use Rattle.c_lexer.specs.declared.element.Next.TheVariants.{Plain, Escape, Close, LineEnd, NoByte, NoEscape}
 use Rattle.c_lexer.specs.Bytes.{is_word_byte, is_number_byte}
 
 -- the text begins with as many bytes as the class wants
@@ -22,14 +22,14 @@ Opens class.Text xs = 1 ≤ length xs
 Opens class.Character xs = 1 ≤ length xs
 Opens class.Other xs = 1 ≤ length xs
 
--- a piece has as many bytes as the text has at most, and at least one where others follow
-abbrev pub Fits : Piece → List ℕ → Type 0
-Fits piece.End xs = Unit {0}
-Fits piece.Blank xs = 1 ≤ length xs
-Fits (piece.Comment n) xs = (0 < n) × (n ≤ length xs)
-Fits (piece.Include n) xs = (0 < n) × (n ≤ length xs)
-Fits (piece.Lexeme kind n) xs = (0 < n) × (n ≤ length xs)
-Fits (piece.Bad fault at) xs = at ≤ length xs
+-- an element has as many bytes as the text has at most, and at least one where others follow
+abbrev pub Fits : Element → List ℕ → Type 0
+Fits element.End xs = Unit {0}
+Fits element.Blank xs = 1 ≤ length xs
+Fits (element.Comment n) xs = (0 < n) × (n ≤ length xs)
+Fits (element.Include n) xs = (0 < n) × (n ≤ length xs)
+Fits (element.Lexeme kind n) xs = (0 < n) × (n ≤ length xs)
+Fits (element.Bad fault at) xs = at ≤ length xs
 
 -- what stands next between quotes has as many bytes as the text has at most
 abbrev pub Holds : Next → List ℕ → Type 0

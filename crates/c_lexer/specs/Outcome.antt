@@ -4,12 +4,12 @@ use Rattle.c_lexer.specs.declared.token.Token.{Token}
 use Rattle.c_lexer.specs.declared.token.Tokens.{Tokens}
 use Rattle.c_lexer.specs.declared.token.Kind.{Kind}
 use Rattle.c_lexer.specs.declared.token.Kind.TheVariants as kind
-use Rattle.c_lexer.specs.declared.piece.Fault.{Fault}
-use Rattle.c_lexer.specs.declared.piece.Fault.TheVariants as fault
+use Rattle.c_lexer.specs.declared.element.Fault.{Fault}
+use Rattle.c_lexer.specs.declared.element.Fault.TheVariants as fault
 use Rattle.c_lexer.specs.declared.reading.Reading.{Reading}
 use Rattle.c_lexer.specs.declared.refusal.LexRefusal.{LexRefusal}
 use Rattle.c_lexer.specs.declared.refusal.LexRefusal.TheVariants as refusal
-use Rattle.c_lexer.specs.Scan.{Reads}
+use Rattle.c_lexer.specs.Scan.{IsReading}
 use Rattle.c_lexer.specs.Nest.{at_first, first_deep}
 
 abbrev pub refusal_of : Fault → ℕ → LexRefusal
@@ -50,7 +50,7 @@ answer_for size r = unless_fault size r r.fault
 -- the answer is that for a reading of the text
 pub record Answers (bytes : List ℕ) (answer : Result Tokens LexRefusal) : Type 0 where
   pub reading : Reading
-  pub reads : Reads bytes reading
+  pub reads : IsReading bytes reading
   pub is : answer_for (length bytes) reading ≡ answer
 
 -- it is, unless memory ran out
@@ -67,7 +67,7 @@ Gives (Err refusal) answer = answer ≡ Err refusal
 
 -- the tokens of a text that is read without a fault, none of them refused and none too deep
 pub record AreTokens (bytes : List ℕ) (tokens : Tokens) : Type 0 where
-  pub reads : Reads bytes (record { tokens = tokens.list; last_comment = tokens.last_comment; fault = None })
+  pub reads : IsReading bytes (record { tokens = tokens.list; last_comment = tokens.last_comment; fault = None })
   pub size : tokens.size ≡ length bytes
   pub none_refused : first_refused tokens.list ≡ None
   pub none_deep : first_deep false at_first tokens.list ≡ None

@@ -45,21 +45,21 @@ abbrev pub number_form : ℕ
 number_form = 58
 
 -- the place of a word in a table whose first place has this number, and None where it isn't there
-abbrev pub place_of : List ℕ → ℕ → List (List ℕ) → Option ℕ
-place_of word number [] = None
-place_of word number (first ∷ rest) = if pointwise nat_eq first word then Some number else place_of word (number + 1) rest
+abbrev pub row_of : List ℕ → ℕ → List (List ℕ) → Option ℕ
+row_of word number [] = None
+row_of word number (first ∷ rest) = if pointwise nat_eq first word then Some number else row_of word (number + 1) rest
 
 abbrev pub key_word : List ℕ → Option ℕ
-key_word word = place_of word 0 key_words
+key_word word = row_of word 0 key_words
 
 abbrev pub refused_word : List ℕ → Option ℕ
-refused_word word = place_of word 0 refused_words
+refused_word word = row_of word 0 refused_words
 
 abbrev pub punctuator : List ℕ → Option ℕ
-punctuator word = place_of word 0 punctuators
+punctuator word = row_of word 0 punctuators
 
 abbrev pub refused_punctuator : List ℕ → Option ℕ
-refused_punctuator word = place_of word 33 refused_punctuators
+refused_punctuator word = row_of word 33 refused_punctuators
 
 -- what the first answer is, or else the second
 abbrev pub or_else : Option Kind → Option Kind → Option Kind

@@ -1,12 +1,12 @@
 // The tokens of a text, or its first refusal.
 ghost use Rattle.std.specs.Prelude.{◌≡◌, length, IfOk};
-ghost use Rattle.c_lexer.specs.Scan.{Reads};
+ghost use Rattle.c_lexer.specs.Scan.{IsReading};
 ghost use Rattle.c_lexer.specs.Outcome.{refusal_of, first_refused, answer_for, AreTokens, IsAnswer, Gives};
 ghost use Rattle.c_lexer.specs.declared.reading.Reading.{Reading};
 
+use crate::element::Fault;
 use crate::front::scan;
 use crate::nest::first_deep;
-use crate::piece::Fault;
 use crate::reading::Reading;
 use crate::{Kind, LexRefusal, Token, Tokens};
 use std::alloc::Global;
@@ -68,10 +68,10 @@ pub fn lex(alloc: Global, bytes: &[u8]) -> Result<Tokens, LexRefusal>
 
     // The answer is that for a reading of the text, unless memory runs out.
     ensures read { IsAnswer bytes.now result }
-    ensures only { (r : Reading) → Reads bytes.now r → Gives result (answer_for (length bytes.now) r) }
+    ensures only { (r : Reading) → IsReading bytes.now r → Gives result (answer_for (length bytes.now) r) }
     // Every text has a reading, and no other one: one list of tokens, whole or up to one first fault.
-    ensures some { (r : Reading) × Reads bytes.now r }
-    ensures one { (r r' : Reading) → Reads bytes.now r → Reads bytes.now r' → r ≡ r' }
+    ensures some { (r : Reading) × IsReading bytes.now r }
+    ensures one { (r r' : Reading) → IsReading bytes.now r → IsReading bytes.now r' → r ≡ r' }
 {
     let reading = scan(alloc, bytes)?;
     answer_for(alloc, bytes.len(), reading)

@@ -4,7 +4,7 @@ ghost use Rattle.std.specs.List.{prefix_len};
 ghost use Rattle.c_lexer.specs.Bytes.{is_blank, is_digit, is_word_byte, is_number_byte, is_space, line_end_next, line_or_text_end_next, text_end_next, continues, continues_in_comment, star_continues, stops, begins_include, class_of};
 ghost use Rattle.c_lexer.specs.Opening.{Opens};
 
-use crate::piece::{Class, Stop};
+use crate::element::{Class, Stop};
 
 pub fn is_blank(b: u8) -> bool
     ensures { result ≡ is_blank b }

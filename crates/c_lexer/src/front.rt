@@ -1,15 +1,15 @@
-// The reading of a text, piece by piece.
+// The reading of a text, element by element.
 ghost use Rattle.std.specs.Prelude.{◌≡◌, ◌+◌, ◌<◌, ◌^◌, IfOk, OnOk, Some, None, []};
 ghost use Rattle.c_lexer.specs.Bytes.{class_of};
 ghost use Rattle.c_lexer.specs.Opening.{Fits};
-ghost use Rattle.c_lexer.specs.Pieces.{IsPiece};
-ghost use Rattle.c_lexer.specs.Scan.{width, Reads};
+ghost use Rattle.c_lexer.specs.Elements.{IsElement};
+ghost use Rattle.c_lexer.specs.Scan.{width, IsReading};
 ghost use Rattle.c_lexer.specs.Front.{advanced, reading_at};
 
 use crate::Token;
 use crate::bytes::class_of;
+use crate::element::{Class, Element, Fault};
 use crate::numbers::number;
-use crate::piece::{Class, Fault, Piece};
 use crate::punctuators::punctuator;
 use crate::quotes::{character, text};
 use crate::reading::Reading;
@@ -28,19 +28,19 @@ pub struct Front {
     pub last_comment: Option<(usize, usize)>,
 }
 
-/// The piece at the front of a text.
-pub fn piece_at(
+/// The element at the front of a text.
+pub fn element_at(
     alloc: Global,
     recent: &mut Recent,
     fresh: bool,
     rest: &[u8],
-) -> Result<Piece, Memory>
-    ensures piece { IfOk result (λ p. IsPiece (class_of fresh rest.now) rest.now p) }
+) -> Result<Element, Memory>
+    ensures element { IfOk result (λ p. IsElement (class_of fresh rest.now) rest.now p) }
     ensures fits { IfOk result (λ p. Fits p rest.now) }
 {
     match class_of(fresh, rest) {
-        Class::End => Ok(Piece::End),
-        Class::Blank => Ok(Piece::Blank),
+        Class::End => Ok(Element::End),
+        Class::Blank => Ok(Element::Blank),
         Class::LineComment => Ok(line_comment(rest)),
         Class::BlockComment => Ok(block_comment(rest)),
         Class::IncludeLine => Ok(include_line(rest)),
@@ -53,27 +53,27 @@ pub fn piece_at(
 }
 
 impl Front {
-    /// Goes past the piece at the front of the rest of the text.
-    pub fn advance(&mut self, rest: &[u8], piece: Piece) -> Result<(), Memory>
-        requires { self.old.at + width piece < 2 ^ 64 }
-        ensures { OnOk result (self.new ≡ advanced self.old rest.now piece) }
+    /// Goes past the element at the front of the rest of the text.
+    pub fn advance(&mut self, rest: &[u8], element: Element) -> Result<(), Memory>
+        requires { self.old.at + width element < 2 ^ 64 }
+        ensures { OnOk result (self.new ≡ advanced self.old rest.now element) }
     {
         let start = self.at;
-        match piece {
-            Piece::Blank => {
+        match element {
+            Element::Blank => {
                 self.fresh = self.fresh || rest.starts_with(b"\n");
                 self.at = start + 1;
             }
-            Piece::Comment(n) => {
+            Element::Comment(n) => {
                 self.fresh = false;
                 self.at = start + n;
                 self.last_comment = Some((start, start + n));
             }
-            Piece::Include(n) => {
+            Element::Include(n) => {
                 self.fresh = false;
                 self.at = start + n;
             }
-            Piece::Lexeme(kind, n) => {
+            Element::Lexeme(kind, n) => {
                 self.tokens.push(Token {
                     kind,
                     start,
@@ -82,7 +82,7 @@ impl Front {
                 self.fresh = false;
                 self.at = start + n;
             }
-            Piece::End | Piece::Bad(_, _) => {}
+            Element::End | Element::Bad(_, _) => {}
         }
         Ok(())
     }
@@ -116,7 +116,7 @@ fn room_for(alloc: Global, count: usize) -> Seq<Token>
 
 /// The tokens of a text, up to its end or its first lexical fault.
 pub fn scan(alloc: Global, bytes: &[u8]) -> Result<Reading, Memory>
-    ensures { IfOk result (λ r. Reads bytes.now r) }
+    ensures { IfOk result (λ r. IsReading bytes.now r) }
 {
     let mut recent = Recent::new(alloc, bytes.len())?;
     let mut front = Front {
@@ -127,13 +127,13 @@ pub fn scan(alloc: Global, bytes: &[u8]) -> Result<Reading, Memory>
     };
     loop {
         let rest = &bytes[front.at..];
-        match piece_at(alloc, &mut recent, front.fresh, rest)? {
-            Piece::End => return Ok(front.reading(None)),
-            Piece::Bad(fault, n) => {
+        match element_at(alloc, &mut recent, front.fresh, rest)? {
+            Element::End => return Ok(front.reading(None)),
+            Element::Bad(fault, n) => {
                 let at = front.at + n;
                 return Ok(front.reading(Some((fault, at))));
             }
-            piece => front.advance(rest, piece)?,
+            element => front.advance(rest, element)?,
         }
     }
 }

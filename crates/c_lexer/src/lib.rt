@@ -3,16 +3,16 @@
 
 mod answer;
 mod bytes;
+mod element;
 mod front;
-mod mark;
 mod nest;
 mod numbers;
-mod piece;
 mod punctuators;
 mod quotes;
 mod reading;
 mod recent;
 mod refusal;
+mod role;
 mod spans;
 mod token;
 mod words;

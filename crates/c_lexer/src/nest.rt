@@ -1,9 +1,9 @@
 // The measure of nesting, and the first token that is too deep.
 ghost use Rattle.std.specs.Prelude.{◌≡◌, ◌+◌, ◌<◌, ◌≤◌, ◌^◌, false, sum, IfOk, OnOk, IsTrue};
-ghost use Rattle.c_lexer.specs.Nest.{Nesting, at_first, nest, without_last, with_last, changed, deepest, first_deep};
+ghost use Rattle.c_lexer.specs.Nest.{Nesting, at_first, nest, without_last, with_last, nesting_after, deepest, first_deep};
 
 use crate::Token;
-use crate::mark::{Mark, else_next, is_else, mark_of};
+use crate::role::{Role, else_next, is_else, role_of};
 use mf_list::{Memory, Seq};
 use std::alloc::Global;
 use std::marker::Model;
@@ -52,7 +52,7 @@ impl Nest {
     /// A count 0 more.
     fn open(&mut self) -> Result<(), Memory>
         requires { nest self.old < 2 ^ 64 }
-        ensures { OnOk result (self.new ≡ changed Mark.Opens false self.old) }
+        ensures { OnOk result (self.new ≡ nesting_after Role.Opens false self.old) }
     {
         self.outer.push(self.last)?;
         self.outer_sum += self.last;
@@ -80,33 +80,33 @@ impl Nest {
         }
     }
 
-    /// What a token with this mark changes, directly before `else` or not.
-    fn apply(&mut self, mark: Mark, before_else: bool) -> Result<(), Memory>
+    /// Goes past a token with this role, directly before `else` or not.
+    fn apply(&mut self, role: Role, before_else: bool) -> Result<(), Memory>
         requires shallow { nest self.old ≤ deepest }
         requires few { self.old.brackets < 2 ^ 63 }
-        ensures { OnOk result (self.new ≡ changed mark before_else self.old) }
+        ensures { OnOk result (self.new ≡ nesting_after role before_else self.old) }
     {
-        match mark {
-            Mark::Opens => self.open()?,
-            Mark::Closes => {
+        match role {
+            Role::Opens => self.open()?,
+            Role::Closes => {
                 self.take_last();
                 self.brackets = 0;
                 self.parts = 0;
                 self.set_last(before_else);
             }
-            Mark::Ends => {
+            Role::Ends => {
                 let stays = before_else || self.brackets != 0;
                 self.parts = 0;
                 self.set_last(stays);
             }
-            Mark::Counts => self.last += 1,
-            Mark::Bracket => {
+            Role::Counts => self.last += 1,
+            Role::Bracket => {
                 self.brackets += 1;
                 self.parts += 1;
             }
-            Mark::CloseBracket => self.brackets = self.brackets.saturating_sub(1),
-            Mark::Part => self.parts += 1,
-            Mark::Nothing => {}
+            Role::CloseBracket => self.brackets = self.brackets.saturating_sub(1),
+            Role::Part => self.parts += 1,
+            Role::Nothing => {}
         }
         Ok(())
     }
@@ -120,7 +120,7 @@ pub fn first_deep(alloc: Global, tokens: &[Token]) -> Result<Option<usize>, Memo
     let mut after_else = false;
     let mut left = tokens;
     while let [token, rest @ ..] = left {
-        nest.apply(mark_of(after_else, &token.kind, rest), else_next(rest))?;
+        nest.apply(role_of(after_else, &token.kind, rest), else_next(rest))?;
         if nest.depth() > DEEPEST {
             return Ok(Some(token.start));
         }

@@ -3,11 +3,11 @@ ghost use Rattle.std.specs.Prelude.{◌≡◌, ◌<◌, ◌≤◌, length};
 ghost use Rattle.std.specs.List.{prefix_len, list_all};
 ghost use Rattle.c_lexer.specs.Bytes.{is_digit, is_number_byte};
 ghost use Rattle.c_lexer.specs.Opening.{Fits};
-ghost use Rattle.c_lexer.specs.Pieces.{is_decimal, decimal_value, int_of, number_by, number_piece};
+ghost use Rattle.c_lexer.specs.Elements.{is_decimal, decimal_value, int_of, number_by, number_element};
 
 use crate::Kind;
 use crate::bytes::{is_digit, number_len};
-use crate::piece::{Fault, Piece};
+use crate::element::{Element, Fault};
 
 const GREATEST: u64 = 2_147_483_647;
 
@@ -40,23 +40,23 @@ fn int_of(digits: &[u8]) -> Option<i32>
     Some(value as i32)
 }
 
-fn number_by(run: &[u8]) -> Piece
+fn number_by(run: &[u8]) -> Element
     ensures { result ≡ number_by run.now (length run.now) }
 {
     let n = run.len();
     if !is_decimal(run) {
-        return Piece::Lexeme(Kind::Refused(NUMBER_FORM), n);
+        return Element::Lexeme(Kind::Refused(NUMBER_FORM), n);
     }
     match int_of(run) {
-        None => Piece::Bad(Fault::WideNumber, 0),
-        Some(value) => Piece::Lexeme(Kind::Number(value), n),
+        None => Element::Bad(Fault::WideNumber, 0),
+        Some(value) => Element::Lexeme(Kind::Number(value), n),
     }
 }
 
 /// A number of any form.
-pub fn number(rest: &[u8]) -> Piece
+pub fn number(rest: &[u8]) -> Element
     requires { 0 < prefix_len is_number_byte rest.now }
-    ensures piece { result ≡ number_piece rest.now }
+    ensures element { result ≡ number_element rest.now }
     ensures fits { Fits result rest.now }
 {
     number_by(&rest[..number_len(rest)])

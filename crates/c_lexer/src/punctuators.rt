@@ -1,11 +1,11 @@
 // The longest punctuator at the front of a text (C99 6.4.6), by its bytes.
 ghost use Rattle.std.specs.Prelude.{◌≡◌, ◌≤◌, [], ◌∷◌, length};
 ghost use Rattle.c_lexer.specs.Opening.{Fits};
-ghost use Rattle.c_lexer.specs.Pieces.{IsPunctuator};
+ghost use Rattle.c_lexer.specs.Elements.{IsPunctuator};
 ghost use Rattle.c_lexer.specs.Words.{punctuator_kind, most_bytes};
 
 use crate::Kind;
-use crate::piece::{Fault, Piece};
+use crate::element::{Element, Fault};
 
 /// How many bytes a punctuator has at most that begins as the text does.
 fn most_bytes(rest: &[u8]) -> usize
@@ -172,17 +172,17 @@ fn punctuator_kind(word: &[u8]) -> Option<Kind>
 }
 
 /// The longest punctuator at the front.
-pub fn punctuator(rest: &[u8]) -> Piece
+pub fn punctuator(rest: &[u8]) -> Element
     requires { 1 ≤ length rest.now }
-    ensures piece { IsPunctuator rest.now result }
+    ensures element { IsPunctuator rest.now result }
     ensures fits { Fits result rest.now }
 {
     let mut n = rest.len().min(most_bytes(rest));
     while n > 0 {
         if let Some(kind) = punctuator_kind(&rest[..n]) {
-            return Piece::Lexeme(kind, n);
+            return Element::Lexeme(kind, n);
         }
         n -= 1;
     }
-    Piece::Bad(Fault::BadByte, 0)
+    Element::Bad(Fault::BadByte, 0)
 }

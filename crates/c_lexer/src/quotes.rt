@@ -1,11 +1,11 @@
 // Strings and character constants (C99 6.4.4.4, 6.4.5).
 ghost use Rattle.std.specs.Prelude.{◌≡◌, ◌<◌, ◌≤◌, length, IfOk};
 ghost use Rattle.c_lexer.specs.Opening.{Fits, Holds, Leaves};
-ghost use Rattle.c_lexer.specs.Pieces.{escaped, allowed, is_zero_escape, escape_next, next_of, one_character, quote_byte, unclosed, Ends, text_piece, character_piece, IsQuoted, Spells};
-ghost use Rattle.c_lexer.specs.declared.piece.Quote.TheVariants.{Double, Single};
+ghost use Rattle.c_lexer.specs.Elements.{escaped, allowed, is_zero_escape, escape_next, next_of, one_character, quote_byte, unclosed, Ends, text_element, character_element, IsQuoted, CharSequence};
+ghost use Rattle.c_lexer.specs.declared.element.Quote.TheVariants.{Double, Single};
 
 use crate::Kind;
-use crate::piece::{Fault, Next, Piece, Quote};
+use crate::element::{Element, Fault, Next, Quote};
 use crate::recent::Recent;
 use mf_list::{Memory, Seq};
 use std::alloc::Global;
@@ -100,7 +100,7 @@ fn next_of(quote: Quote, rest: &[u8]) -> Next
 
 /// What stands between quotes, from behind the opening one.
 fn between_quotes(alloc: Global, quote: Quote, text: &[u8]) -> Result<Quoted, Memory>
-    ensures spelled { IfOk result (λ q. Spells quote text.now q.values q.len q.end) }
+    ensures spelled { IfOk result (λ q. CharSequence quote text.now q.values q.len q.end) }
     ensures within { IfOk result (λ q. Ends q.end × Leaves q.len q.end text.now) }
 {
     let mut values = Seq::new(alloc);
@@ -126,47 +126,47 @@ fn between_quotes(alloc: Global, quote: Quote, text: &[u8]) -> Result<Quoted, Me
     }
 }
 
-fn unclosed(len: usize, end: Next) -> Piece
+fn unclosed(len: usize, end: Next) -> Element
     requires { len < 18446744073709551615 }
     ensures { result ≡ unclosed len end }
 {
     match end {
-        Next::NoByte => Piece::Bad(Fault::BadByte, len + 1),
-        Next::NoEscape => Piece::Bad(Fault::BadEscape, len + 1),
-        _ => Piece::Bad(Fault::OpenText, 0),
+        Next::NoByte => Element::Bad(Fault::BadByte, len + 1),
+        Next::NoEscape => Element::Bad(Fault::BadEscape, len + 1),
+        _ => Element::Bad(Fault::OpenText, 0),
     }
 }
 
 /// A string.
-pub fn text(alloc: Global, recent: &mut Recent, rest: &[u8]) -> Result<Piece, Memory>
+pub fn text(alloc: Global, recent: &mut Recent, rest: &[u8]) -> Result<Element, Memory>
     requires { 1 ≤ length rest.now }
-    ensures piece { IfOk result (λ p. IsQuoted Double text_piece rest.now p) }
+    ensures element { IfOk result (λ p. IsQuoted Double text_element rest.now p) }
     ensures fits { IfOk result (λ p. Fits p rest.now) }
 {
     let Quoted { values, len, end } = between_quotes(alloc, Quote::Double, &rest[1..])?;
     match end {
         Next::Close => {
             let bytes = recent.string(alloc, values)?;
-            Ok(Piece::Lexeme(Kind::Text(bytes), len + 2))
+            Ok(Element::Lexeme(Kind::Text(bytes), len + 2))
         }
         end => Ok(unclosed(len, end)),
     }
 }
 
-fn one_character(values: &[u8], len: usize) -> Piece
+fn one_character(values: &[u8], len: usize) -> Element
     requires { len < 18446744073709551614 }
     ensures { result ≡ one_character values.now len }
 {
     match values {
-        [b] => Piece::Lexeme(Kind::Number(i32::from(*b)), len + 2),
-        _ => Piece::Bad(Fault::OpenText, 0),
+        [b] => Element::Lexeme(Kind::Number(i32::from(*b)), len + 2),
+        _ => Element::Bad(Fault::OpenText, 0),
     }
 }
 
 /// A character constant.
-pub fn character(alloc: Global, rest: &[u8]) -> Result<Piece, Memory>
+pub fn character(alloc: Global, rest: &[u8]) -> Result<Element, Memory>
     requires { 1 ≤ length rest.now }
-    ensures piece { IfOk result (λ p. IsQuoted Single character_piece rest.now p) }
+    ensures element { IfOk result (λ p. IsQuoted Single character_element rest.now p) }
     ensures fits { IfOk result (λ p. Fits p rest.now) }
 {
     let Quoted { values, len, end } = between_quotes(alloc, Quote::Single, &rest[1..])?;

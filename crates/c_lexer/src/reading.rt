@@ -1,6 +1,6 @@
 // The tokens of a text as far as it is read.
 use crate::Token;
-use crate::piece::Fault;
+use crate::element::Fault;
 use mf_list::Seq;
 
 /// The tokens of a text up to its end or its first lexical fault.

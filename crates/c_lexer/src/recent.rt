@@ -16,8 +16,8 @@ pub struct Recent {
     slots: Seq<Option<SharedBytes>>,
 }
 
-/// The place of a byte of a name among those bytes.
-fn place_of(b: u8) -> usize
+/// The place of a byte of a name among the bytes of names.
+fn byte_place(b: u8) -> usize
     ensures { result ≤ 62 }
 {
     let place = match b {
@@ -31,8 +31,8 @@ fn place_of(b: u8) -> usize
 
 fn slot_of(bytes: &[u8]) -> usize {
     match bytes {
-        [a] => place_of(*a) * 64 + 63,
-        [a, b] => place_of(*a) * 64 + place_of(*b),
+        [a] => byte_place(*a) * 64 + 63,
+        [a, b] => byte_place(*a) * 64 + byte_place(*b),
         _ => {
             let mut mixed = 0u32;
             for b in bytes {

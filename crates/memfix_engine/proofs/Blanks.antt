@@ -7,9 +7,9 @@ use Rattle.c_lexer.specs.declared.token.Token.{Token}
 use Rattle.c_lexer.specs.Scan.{HasTokens}
 use Rattle.c_lexer.proofs.LocalPasses.{NoneRefused}
 use Rattle.memfix_engine.specs.declared.edit.Change.{Change}
-use Rattle.memfix_engine.specs.Edit.{blanked, changed}
+use Rattle.memfix_engine.specs.Edit.{blanked, with_changes}
 use Rattle.memfix_engine.proofs.ChangeLemmas.{Behind, Behind_before, changed_more}
-use Rattle.memfix_engine.proofs.TextLemmas.{Ascend, Ascend_at, Ascend_le, tokens_blanked}
+use Rattle.memfix_engine.proofs.TextLemmas.{Ascends, ascends_at, ascends_le, tokens_blanked}
 
 -- some tokens become blanks, the others are kept
 pub data Kept : List Token → List Token → List Change → Type 0 where
@@ -43,7 +43,7 @@ kept_accepted (keep t k) h = (h.0, kept_accepted k h.1)
 kept_accepted (blank t k) h = kept_accepted k h.1
 
 -- the blanks stand where the tokens do, and what comes behind them stands behind the tokens
-Behind_kept : (a l : ℕ) {ts us : List Token} {cs : List Change} (ds : List Change) → Kept ts us cs → Ascend a ts l → Behind l ds → Behind a (cs ++ ds)
+Behind_kept : (a l : ℕ) {ts us : List Token} {cs : List Change} (ds : List Change) → Kept ts us cs → Ascends a ts l → Behind l ds → Behind a (cs ++ ds)
 Behind_kept a l ds none h b = Behind_before a l ds h b
 Behind_kept a l ds (keep {ts = ts} {cs = cs} t k) h b =
     let le : a ≤ t.end = omega (arith, h.0, h.1) in
@@ -54,27 +54,27 @@ Behind_kept a l ds (blank t k) h b =
 
 -- the text with the blanks has the tokens that are kept
 pub kept_tokens : (b : List ℕ) (a l : ℕ) (front : List Token) {ts us : List Token} {cs : List Change} (ds : List Change) (rest : List Token)
-    → Kept ts us cs → Ascend a ts l → l ≤ length b → Behind l ds → NoneRefused front → NoneRefused ts → NoneRefused rest
-    → HasTokens (changed 0 ds b) (front ++ (ts ++ rest)) → HasTokens (changed 0 (cs ++ ds) b) (front ++ (us ++ rest))
+    → Kept ts us cs → Ascends a ts l → l ≤ length b → Behind l ds → NoneRefused front → NoneRefused ts → NoneRefused rest
+    → HasTokens (with_changes 0 ds b) (front ++ (ts ++ rest)) → HasTokens (with_changes 0 (cs ++ ds) b) (front ++ (us ++ rest))
 kept_tokens b a l front ds rest none h within behind n m o s = s
 kept_tokens b a l front ds rest (keep {ts = ts} {us = us} {cs = cs} t k) h within behind n m o s =
     let split : front ++ (t ∷ ts ++ rest) ≡ (front ++ t ∷ []) ++ (ts ++ rest) = sym (append_assoc front (t ∷ []) (ts ++ rest)) in
     let joined : (front ++ t ∷ []) ++ (us ++ rest) ≡ front ++ (t ∷ us ++ rest) = append_assoc front (t ∷ []) (us ++ rest) in
-    subst (HasTokens (changed 0 (cs ++ ds) b)) joined
+    subst (HasTokens (with_changes 0 (cs ++ ds) b)) joined
     (kept_tokens b t.end l (front ++ t ∷ []) ds rest k h.2 within behind (NoneRefused_append front (t ∷ []) n (m.0, tt)) m.1 o
-    (subst (HasTokens (changed 0 ds b)) split s))
+    (subst (HasTokens (with_changes 0 ds b)) split s))
 kept_tokens b a l front ds rest (blank {ts = ts} {us = us} {cs = cs} t k) h within behind n m o s =
     let split : front ++ (t ∷ ts ++ rest) ≡ (front ++ t ∷ []) ++ (ts ++ rest) = sym (append_assoc front (t ∷ []) (ts ++ rest)) in
     let joined : (front ++ t ∷ []) ++ (us ++ rest) ≡ front ++ (t ∷ us ++ rest) = append_assoc front (t ∷ []) (us ++ rest) in
-    let text : List ℕ = changed 0 (cs ++ ds) b in
+    let text : List ℕ = with_changes 0 (cs ++ ds) b in
     let before : HasTokens text (front ++ (t ∷ us ++ rest)) =
     subst (HasTokens text) joined
     (kept_tokens b t.end l (front ++ t ∷ []) ds rest k h.2 within behind (NoneRefused_append front (t ∷ []) n (m.0, tt)) m.1 o
-    (subst (HasTokens (changed 0 ds b)) split s)) in
+    (subst (HasTokens (with_changes 0 ds b)) split s)) in
     let accepted : NoneRefused (front ++ (t ∷ us ++ rest)) =
     NoneRefused_append front (t ∷ us ++ rest) n (m.0, NoneRefused_append us rest (kept_accepted k m.1) o) in
     let ordered : t.start ≤ t.end = omega (arith, h.1) in
-    let last : t.end ≤ length b = omega (arith, Ascend_le t.end ts l h.2, within) in
+    let last : t.end ≤ length b = omega (arith, ascends_le t.end ts l h.2, within) in
     subst (λ w. HasTokens w (front ++ (us ++ rest))) (sym (changed_more (blanked t) (cs ++ ds) b ordered last (Behind_kept t.end l ds k h.2 behind)))
     (tokens_blanked text front (us ++ rest) t before accepted)
 
@@ -98,23 +98,23 @@ skips p t ts h = ap (λ b. cond b (t ∷ filter p ts) (filter p ts)) h
 takes : (p : Token → Bool) (t : Token) (ts : List Token) → p t ≡ true → filter p (t ∷ ts) ≡ t ∷ filter p ts
 takes p t ts h = ap (λ b. cond b (t ∷ filter p ts) (filter p ts)) h
 
-none_before : (a from to : ℕ) (ts : List Token) → Ascend a ts from → filter (stands from to) ts ≡ []
+none_before : (a from to : ℕ) (ts : List Token) → Ascends a ts from → filter (stands from to) ts ≡ []
 none_before a from to [] h = refl
 none_before a from to (t ∷ ts) h =
-    let before : t.start < from = omega (arith, h.1, Ascend_le t.end ts from h.2) in
+    let before : t.start < from = omega (arith, h.1, ascends_le t.end ts from h.2) in
     skips (stands from to) t ts (left_fails (nat_le from t.start) (nat_lt t.end to) (lt-leb from t.start before))
     ∙ none_before t.end from to ts h.2
 
-all_within : (a l from to : ℕ) (ts : List Token) → from ≤ a → Ascend a ts l → l < to → filter (stands from to) ts ≡ ts
+all_within : (a l from to : ℕ) (ts : List Token) → from ≤ a → Ascends a ts l → l < to → filter (stands from to) ts ≡ ts
 all_within a l from to [] first h last = refl
 all_within a l from to (t ∷ ts) first h last =
     let start : from ≤ t.start = omega (arith, h.0) in
-    let end : t.end < to = omega (arith, Ascend_le t.end ts l h.2) in
+    let end : t.end < to = omega (arith, ascends_le t.end ts l h.2) in
     let next : from ≤ t.end = omega (arith, h.1) in
     takes (stands from to) t ts (both (nat_le from t.start) (nat_lt t.end to) (le-leb from t.start start) (lt-ltb t.end to end))
     ∙ ap (λ us. t ∷ us) (all_within t.end l from to ts next h.2 last)
 
-none_behind : (a l from to : ℕ) (ts : List Token) → from ≤ a → to ≤ a → Ascend a ts l → filter (stands from to) ts ≡ []
+none_behind : (a l from to : ℕ) (ts : List Token) → from ≤ a → to ≤ a → Ascends a ts l → filter (stands from to) ts ≡ []
 none_behind a l from to [] first last h = refl
 none_behind a l from to (t ∷ ts) first last h =
     let start : from ≤ t.start = omega (arith, h.0) in
@@ -124,21 +124,21 @@ none_behind a l from to (t ∷ ts) first last h =
     ∙ none_behind t.end l from to ts next end h.2
 
 -- between the first and the last of some tokens there are these but the last
-pub within_only : (front more behind : List Token) (first last : Token) (l : ℕ) → Ascend 0 (front ++ first ∷ (more ++ last ∷ behind)) l
+pub within_only : (front more behind : List Token) (first last : Token) (l : ℕ) → Ascends 0 (front ++ first ∷ (more ++ last ∷ behind)) l
     → filter (stands first.start last.end) (front ++ first ∷ (more ++ last ∷ behind)) ≡ first ∷ more
 within_only front more behind first last l h =
     let p = stands first.start last.end in
-    let begun = Ascend_at 0 front (more ++ last ∷ behind) first l h in
+    let begun = ascends_at 0 front (more ++ last ∷ behind) first l h in
     let same : first.start ≤ first.start = omega arith in
-    let rest : Ascend first.start (first ∷ (more ++ last ∷ behind)) l = (same, begun.1, begun.2) in
-    let ended = Ascend_at first.start (first ∷ more) behind last l rest in
+    let rest : Ascends first.start (first ∷ (more ++ last ∷ behind)) l = (same, begun.1, begun.2) in
+    let ended = ascends_at first.start (first ∷ more) behind last l rest in
     let none : filter p front ≡ [] = none_before 0 first.start last.end front begun.0 in
     let all : filter p (first ∷ more) ≡ first ∷ more = all_within first.start last.start first.start last.end (first ∷ more) same ended.0 ended.1 in
     let not_last : p last ≡ false =
     right_fails (nat_le first.start last.start) (nat_lt last.end last.end)
-    (le-leb first.start last.start (Ascend_le first.start (first ∷ more) last.start ended.0)) (le-ltb last.end last.end (omega arith)) in
+    (le-leb first.start last.start (ascends_le first.start (first ∷ more) last.start ended.0)) (le-ltb last.end last.end (omega arith)) in
     let no_more : filter p behind ≡ [] =
-    none_behind last.end l first.start last.end behind (omega (arith, Ascend_le first.start (first ∷ more) last.start ended.0, ended.1)) (omega arith) ended.2 in
+    none_behind last.end l first.start last.end behind (omega (arith, ascends_le first.start (first ∷ more) last.start ended.0, ended.1)) (omega arith) ended.2 in
     filter-append p front (first ∷ (more ++ last ∷ behind))
     ∙ ap (λ ts. ts ++ filter p (first ∷ (more ++ last ∷ behind))) none
     ∙ filter-append p (first ∷ more) (last ∷ behind)

@@ -2,7 +2,7 @@
 use Rattle.std.proofs.Common.{◌≡◌, ℕ, zero, suc, ◌+◌, ◌<◌, ◌≤◌, Bool, true, false, cond, not, ◌==◌, ◌&&◌, ◌||◌, List, [], ◌∷◌, ◌++◌, refl, sym, ◌∙◌, ap, subst, arith}
 use Rattle.std.specs.Prelude.{count_by}
 use Rattle.std.specs.List.{list_all, range_with_len}
-use Rattle.std.proofs.lemmas.Bool.{eq-eqb, eqb-true, eqb-false}
+use Rattle.std.proofs.lemmas.Bool.{and_parts, eq-eqb, eqb-true, eqb-false}
 use Rattle.std.proofs.lemmas.Bool.Decides.{nat_tests}
 use Rattle.std.proofs.lemmas.List.Recursion.{is_count_by}
 use Rattle.c_meaning.specs.First.Frees.{is_in}
@@ -76,18 +76,10 @@ not_first : (a b : Bool) → (not a && b) ≡ true → a ≡ false
 not_first true b h = cc
 not_first false b h = refl
 
-pub and_first : (a b : Bool) → (a && b) ≡ true → a ≡ true
-and_first true b h = refl
-and_first false b h = cc
-
-pub and_second : (a b : Bool) → (a && b) ≡ true → b ≡ true
-and_second true b h = h
-and_second false b h = cc
-
 pub Apart-behind : (xs gone ys : List ℕ) → is_apart xs ys ≡ true → Apart gone ys → Apart (behind xs gone) ys
 Apart-behind [] gone ys h apart = apart
 Apart-behind (x ∷ xs) gone ys h apart =
-    Apart-behind xs (x ∷ gone) ys (and_second (not (is_in x ys)) (is_apart xs ys) h)
+    Apart-behind xs (x ∷ gone) ys (and_parts (not (is_in x ys)) (is_apart xs ys) h).1
     (Apart-cons x gone ys (not_first (is_in x ys) (is_apart xs ys) h) apart)
 
 first_step : (b c : Bool) → c ≡ true → (b ≡ true → c ≡ false) → b ≡ false
@@ -107,7 +99,7 @@ Apart-rest xs y ys apart x h = or_second (x == y) (is_in x ys) (apart x h)
 
 -- what holds of all of a range
 range_step : (test : ℕ → Bool) (a x : ℕ) (t b : Bool) → (a == x) ≡ b → (test a && t) ≡ true → (a + 1 ≤ x → test x ≡ true) → a ≤ x → test x ≡ true
-range_step test a x t true e h f from = subst (λ (y : ℕ). test y ≡ true) (eqb-true a x e) (and_first (test a) t h)
+range_step test a x t true e h f from = subst (λ (y : ℕ). test y ≡ true) (eqb-true a x e) (and_parts (test a) t h).0
 range_step test a x t false e h f from = let apart = eqb-false a x e in f (omega arith)
 
 pub range_each : (test : ℕ → Bool) (a n x : ℕ) → list_all test (range_with_len a n) ≡ true → a ≤ x → x < a + n → test x ≡ true
@@ -115,4 +107,4 @@ range_each test a zero x h from below = absurd (omega arith)
 range_each test a (suc n) x h from below =
     let b : x < a + suc n = below in
     range_step test a x (list_all test (range_with_len (a + 1) n)) (a == x) refl h
-    (λ above. range_each test (a + 1) n x (and_second (test a) (list_all test (range_with_len (a + 1) n)) h) above (omega arith)) from
+    (λ above. range_each test (a + 1) n x (and_parts (test a) (list_all test (range_with_len (a + 1) n)) h).1 above (omega arith)) from

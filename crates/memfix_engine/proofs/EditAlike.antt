@@ -35,8 +35,8 @@ use Rattle.c_meaning.specs.First.Frees as all
 use Rattle.c_meaning.specs.First.Frees.{AllVars}
 use Rattle.memfix_engine.specs.declared.draft.Draft.{Draft}
 use Rattle.memfix_engine.specs.declared.edit.Change.{Change}
-use Rattle.memfix_engine.specs.declared.reading.Reading.{Reading}
-use Rattle.memfix_engine.specs.Reading.{item_piece, return_of, result_of, gap_of, main_of, body_of, whole_of}
+use Rattle.memfix_engine.specs.declared.gathered.Gathered.{Gathered}
+use Rattle.memfix_engine.specs.Gathered.{item_piece, return_of, result_of, gap_of, main_of, body_of, whole_of}
 use Rattle.memfix_engine.specs.Edit.{is_of, are_put, blanks, written, gap_changes, piece_changes, changes}
 use Rattle.memfix_engine.specs.Own.{put_of, freed, own_puts}
 use Rattle.memfix_engine.specs.Repair.{return_puts}
@@ -95,7 +95,7 @@ whole_with d n vars body = record {
 abbrev whole_from : Draft → ℕ → List VarDef → List Piece → List Free → Program
 whole_from d n vars ps fs = whole_with d n vars (body_with d n ps fs)
 
-regapped_body : (f : Gap → Gap) (d : Draft) (r : Reading) (fs : List Free) → f (gap_of r) ≡ gap_with (length r.pieces) fs
+regapped_body : (f : Gap → Gap) (d : Draft) (r : Gathered) (fs : List Free) → f (gap_of r) ≡ gap_with (length r.pieces) fs
     → f (gap_with (length r.pieces + 1) []) ≡ gap_with (length r.pieces + 1) []
     → regapped_block f (body_of d r) ≡ body_with d (length r.pieces) (map (regapped_piece f) r.pieces) fs
 regapped_body f d r fs before last =
@@ -105,7 +105,7 @@ regapped_body f d r fs before last =
     ∙ ap (λ (p : Piece). block_with d (map (regapped_piece f) r.pieces ++ p ∷ []) (gap_with (length r.pieces + 1) []))
     (regapped_item_piece f (gap_of r) (gap_with (length r.pieces) fs) (return_of d) d.return_at d.return_end before (regapped_return f d))
 
-regapped_whole : (f : Gap → Gap) (d : Draft) (r : Reading) (fs : List Free) → f (gap_of r) ≡ gap_with (length r.pieces) fs
+regapped_whole : (f : Gap → Gap) (d : Draft) (r : Gathered) (fs : List Free) → f (gap_of r) ≡ gap_with (length r.pieces) fs
     → f (gap_with (length r.pieces + 1) []) ≡ gap_with (length r.pieces + 1) []
     → regapped f (whole_of d r) ≡ whole_from d (length r.pieces) r.vars (map (regapped_piece f) r.pieces) fs
 regapped_whole f d r fs before last = ap (whole_with d (length r.pieces) r.vars) (regapped_body f d r fs before last)
@@ -216,7 +216,7 @@ all_length x _ _ all.none = omega arith
 all_length x n _ (all.more {fs = fs} at start end h) = let e : n ≡ (x + 1) + length fs = all_length (x + 1) n fs h in omega (arith, e)
 
 -- the filling by the return choice, but for offsets
-pub alike_return : (d d' : Draft) (r : Reading) (fs : List Free) → IsSound r → d'.number ≡ d.number → AllVars 0 (length r.vars) fs
+pub alike_return : (d d' : Draft) (r : Gathered) (fs : List Free) → IsSound r → d'.number ≡ d.number → AllVars 0 (length r.vars) fs
     → IsAlike (whole_of d' (cleared r fs)) (fill (whole_of d r) (record { puts = return_puts (whole_of d r) }))
 alike_return d d' r fs sound number each =
     let xs = range_with_len 0 (length r.vars) in
@@ -262,7 +262,7 @@ own_pieces puts k n l _ (more {m = m} {i = i} {fs = fs} {ps = ps} start end f s 
     ∙ ap (λ (qs : List Piece). bare_piece (item_piece (gap_with k fs) i start end) ∷ qs) (own_pieces puts (k + 1) m l ps t h.1)
 
 -- the filling by the program's own frees, but for offsets
-pub alike_own : (d : Draft) (r : Reading) → IsSound r → IsAlike (whole_of d r) (fill (whole_of d r) (record { puts = own_puts (whole_of d r) }))
+pub alike_own : (d : Draft) (r : Gathered) → IsSound r → IsAlike (whole_of d r) (fill (whole_of d r) (record { puts = own_puts (whole_of d r) }))
 alike_own d r sound =
     let puts = own_puts (whole_of d r) in
     let kept : AreKept puts (map gap_before r.pieces ++ gap_of r ∷ gap_with (length r.pieces + 1) [] ∷ []) = own_kept d r sound in
@@ -302,7 +302,7 @@ pieces_unchanged ts vars puts k n l _ (more {m = m} {i = i} {fs = fs} {ps = ps} 
     (piece_changes_are ts vars puts (gap_with k fs) i start end ∙ own_unchanged ts vars puts start k n fs f kept)
     ∙ pieces_unchanged ts vars puts (k + 1) m l ps t h.1
 
-pub unchanged_own : (ts : List Token) (d : Draft) (r : Reading) → IsSound r → changes ts (whole_of d r) (own_puts (whole_of d r)) ≡ []
+pub unchanged_own : (ts : List Token) (d : Draft) (r : Gathered) → IsSound r → changes ts (whole_of d r) (own_puts (whole_of d r)) ≡ []
 unchanged_own ts d r sound =
     let puts = own_puts (whole_of d r) in
     let kept : AreKept puts (map gap_before r.pieces ++ gap_of r ∷ gap_with (length r.pieces + 1) [] ∷ []) = own_kept d r sound in

@@ -12,13 +12,13 @@ use Rattle.c_tree.specs.declared.program.Program.{Program}
 use Rattle.memfix_engine.specs.declared.kinds.TheConstants.{KEY_FREE, KEY_INT, KEY_MALLOC, KEY_RETURN, KEY_SIZEOF, KEY_VOID, PUNCT_ASSIGN, PUNCT_CLOSE, PUNCT_CLOSE_BRACE, PUNCT_OPEN, PUNCT_OPEN_BRACE, PUNCT_SEMICOLON, PUNCT_STAR}
 use Rattle.memfix_engine.specs.declared.draft.Pattern.TheVariants as pattern
 use Rattle.memfix_engine.specs.declared.draft.Draft.{Draft}
-use Rattle.memfix_engine.specs.declared.reading.Reading.{Reading}
+use Rattle.memfix_engine.specs.declared.gathered.Gathered.{Gathered}
 use Rattle.memfix_engine.proofs.FreeText.{token_of}
 use Rattle.memfix_engine.specs.Form.{step_of, draft_of}
-use Rattle.memfix_engine.specs.Reading.{declared, stored, item_piece, whole_of, program_of}
+use Rattle.memfix_engine.specs.Gathered.{declared, stored, item_piece, whole_of, program_of}
 use Rattle.memfix_engine.proofs.Straight.{gap_with}
 use Rattle.memfix_engine.specs.Edit.{edited, AreInOrder}
-use Rattle.memfix_engine.specs.Own.{put_of, own_puts, fits, are_numbered}
+use Rattle.memfix_engine.specs.Own.{put_of, own_puts, frees_fit, are_numbered}
 use Rattle.memfix_engine.specs.Repair.{return_puts, choice_of}
 
 abbrev text : List ℕ
@@ -89,8 +89,8 @@ abbrev draft : Draft
 draft = draft_of (step_of pattern.Make making ∷ step_of pattern.Free freeing ∷ step_of pattern.Store storing ∷ []) head tail
 
 -- the declaration in gap 0, and the store behind the free in gap 1
-abbrev reading : Reading
-reading = record {
+abbrev gathered : Gathered
+gathered = record {
   vars = record { name = codes "a"; ty = IntPtr; home = Local 0; at = 22 } ∷ [];
   pieces =
       item_piece (gap_with 0 []) (declared 0 (record { name = codes "a"; name_at = 22; equals = 24; malloc = 26 })) 17 46
@@ -101,7 +101,7 @@ reading = record {
 }
 
 abbrev program : Program
-program = whole_of draft reading
+program = whole_of draft gathered
 
 reads : program_of draft ≡ Some program
 reads = refl
@@ -109,7 +109,7 @@ reads = refl
 numbered : are_numbered program ≡ true
 numbered = simp (out-roll-Block)
 
-too_soon : fits program ≡ false
+too_soon : frees_fit program ≡ false
 too_soon = simp (out-roll-Block, item.outs-Assign, item.outs-Return, expr.outs-Var, expr.outs-Deref)
 
 -- the variable is freed in the gap before the return

@@ -1,14 +1,14 @@
 -- The choice of a repair ascends.
 use Rattle.std.proofs.Common.{◌≡◌, ℕ, zero, suc, ◌+◌, ◌-◌, ◌<◌, ◌≤◌, Bool, true, false, ◌==◌, ◌&&◌, ◌||◌, nat_lt, List, [], ◌∷◌, ◌++◌, length, map, flat_map, refl, ◌∙◌, ap, arith}
 use Rattle.std.specs.Prelude.{if◌then◌else◌}
-use Rattle.std.proofs.lemmas.Bool.{eq-eqb, lt-ltb, ltb-true}
+use Rattle.std.proofs.lemmas.Bool.{and_parts, eq-eqb, lt-ltb, ltb-true}
 use Rattle.std.proofs.lemmas.List.Folds.{list_all-append}
 use Rattle.std.specs.List.{range_with_len, list_all}
 use Rattle.c_tree.specs.declared.choice.Put.{Put}
 use Rattle.c_tree.specs.declared.program.Gap.{Gap}
 use Rattle.c_tree.specs.declared.program.Program.{Program}
 use Rattle.c_tree.specs.Fill.{ascends, precedes, IsAscending}
-use Rattle.memfix_engine.specs.Own.{put_of, freed, is_ascending, gaps_of, pieces_of, is_freed_once, is_unused_behind, fits, own_puts, are_numbered}
+use Rattle.memfix_engine.specs.Own.{put_of, freed, is_ascending, gaps_of, pieces_of, is_freed_once, is_unused_behind, frees_fit, own_puts, are_numbered}
 use Rattle.memfix_engine.specs.Repair.{return_puts, choice_of}
 
 or_right : (a b c : Bool) → b ≡ true → c ≡ true → (a || (b && c)) ≡ true
@@ -48,14 +48,6 @@ puts-more g n =
 
 -- The program's own frees, where the gaps are numbered and each gap's frees ascend.
 
-and_left : (a b : Bool) → (a && b) ≡ true → a ≡ true
-and_left true b h = refl
-and_left false b h = cc
-
-and_right : (a b : Bool) → (a && b) ≡ true → b ≡ true
-and_right true b h = h
-and_right false b h = cc
-
 -- the puts are in gaps behind the one of that number
 abbrev are_past : ℕ → List Put → Bool
 are_past g qs = list_all (λ q. nat_lt g q.gap) qs
@@ -74,11 +66,11 @@ gap_ascends : (g : ℕ) (xs : List ℕ) (qs : List Put) → is_ascending xs ≡ 
 gap_ascends g [] qs up past h = h
 gap_ascends g (x ∷ []) [] up past h = refl
 gap_ascends g (x ∷ []) (q ∷ qs) up past h =
-    both (precedes (put_of g x) q) (ascends (q ∷ qs)) (past_precedes g x q (and_left (nat_lt g q.gap) (are_past g qs) past)) h
+    both (precedes (put_of g x) q) (ascends (q ∷ qs)) (past_precedes g x q (and_parts (nat_lt g q.gap) (are_past g qs) past).0) h
 gap_ascends g (x ∷ y ∷ xs) qs up past h =
     both (precedes (put_of g x) (put_of g y)) (ascends (map (put_of g) (y ∷ xs) ++ qs))
-    (var_precedes g x y (and_left (nat_lt x y) (is_ascending (y ∷ xs)) up))
-    (gap_ascends g (y ∷ xs) qs (and_right (nat_lt x y) (is_ascending (y ∷ xs)) up) past h)
+    (var_precedes g x y (and_parts (nat_lt x y) (is_ascending (y ∷ xs)) up).0)
+    (gap_ascends g (y ∷ xs) qs (and_parts (nat_lt x y) (is_ascending (y ∷ xs)) up).1 past h)
 
 gap_past : (n g : ℕ) (xs : List ℕ) → n < g → are_past n (map (put_of g) xs) ≡ true
 gap_past n g [] below = refl
@@ -88,29 +80,29 @@ gap_past n g (x ∷ xs) below = both (nat_lt n g) (are_past n (map (put_of g) xs
 own_past : (n m : ℕ) (gs : List Gap) → n ≤ m → is_ascending (m ∷ map (λ g. g.number) gs) ≡ true → are_past n (flat_map own_of gs) ≡ true
 own_past n m [] low up = refl
 own_past n m (g ∷ gs) low up =
-    let next : m < g.number = ltb-true m g.number (and_left (nat_lt m g.number) (is_ascending (g.number ∷ map (λ g. g.number) gs)) up) in
+    let next : m < g.number = ltb-true m g.number (and_parts (nat_lt m g.number) (is_ascending (g.number ∷ map (λ g. g.number) gs)) up).0 in
     list_all-append (λ q. nat_lt n q.gap) (own_of g) (flat_map own_of gs)
     ∙ both (are_past n (own_of g)) (are_past n (flat_map own_of gs)) (gap_past n g.number (freed g) (omega arith))
-    (own_past n g.number gs (omega arith) (and_right (nat_lt m g.number) (is_ascending (g.number ∷ map (λ g. g.number) gs)) up))
+    (own_past n g.number gs (omega arith) (and_parts (nat_lt m g.number) (is_ascending (g.number ∷ map (λ g. g.number) gs)) up).1)
 
 numbered_tail : (m : ℕ) (ns : List ℕ) → is_ascending (m ∷ ns) ≡ true → is_ascending ns ≡ true
 numbered_tail m [] up = refl
-numbered_tail m (n ∷ ns) up = and_right (nat_lt m n) (is_ascending (n ∷ ns)) up
+numbered_tail m (n ∷ ns) up = (and_parts (nat_lt m n) (is_ascending (n ∷ ns)) up).1
 
 pub own_ascend : (gs : List Gap) → is_ascending (map (λ g. g.number) gs) ≡ true → list_all (λ g. is_ascending (freed g)) gs ≡ true → ascends (flat_map own_of gs) ≡ true
 own_ascend [] up rows = refl
 own_ascend (g ∷ gs) up rows =
-    gap_ascends g.number (freed g) (flat_map own_of gs) (and_left (is_ascending (freed g)) (list_all (λ g. is_ascending (freed g)) gs) rows)
+    gap_ascends g.number (freed g) (flat_map own_of gs) (and_parts (is_ascending (freed g)) (list_all (λ g. is_ascending (freed g)) gs) rows).0
     (own_past g.number g.number gs (omega arith) up)
-    (own_ascend gs (numbered_tail g.number (map (λ g. g.number) gs) up) (and_right (is_ascending (freed g)) (list_all (λ g. is_ascending (freed g)) gs) rows))
+    (own_ascend gs (numbered_tail g.number (map (λ g. g.number) gs) up) (and_parts (is_ascending (freed g)) (list_all (λ g. is_ascending (freed g)) gs) rows).1)
 
-pub own_puts_ascend : (p : Program) → are_numbered p ≡ true → fits p ≡ true → ascends (own_puts p) ≡ true
-own_puts_ascend p up h = own_ascend (gaps_of p) up (and_right (is_freed_once p && is_unused_behind (pieces_of p)) (list_all (λ g. is_ascending (freed g)) (gaps_of p)) h)
+pub own_puts_ascend : (p : Program) → are_numbered p ≡ true → frees_fit p ≡ true → ascends (own_puts p) ≡ true
+own_puts_ascend p up h = own_ascend (gaps_of p) up (and_parts (is_freed_once p && is_unused_behind (pieces_of p)) (list_all (λ g. is_ascending (freed g)) (gaps_of p)) h).1
 
-either_ascends : (p : Program) → are_numbered p ≡ true → (b : Bool) → fits p ≡ b → ascends (if b then own_puts p else return_puts p) ≡ true
+either_ascends : (p : Program) → are_numbered p ≡ true → (b : Bool) → frees_fit p ≡ b → ascends (if b then own_puts p else return_puts p) ≡ true
 either_ascends p up true h = own_puts_ascend p up h
 either_ascends p up false h = ascends-range (p.gaps - 2) 0 (length p.vars - 1)
 
 -- the choice of a program with numbered gaps
 pub choice_ascends : (p : Program) → are_numbered p ≡ true → IsAscending (choice_of p)
-choice_ascends p up = either_ascends p up (fits p) refl
+choice_ascends p up = either_ascends p up (frees_fit p) refl

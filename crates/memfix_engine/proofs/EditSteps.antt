@@ -1,6 +1,6 @@
 -- The steps that the return choice leaves: which old frees become blank, and what is read off the rest.
 use Rattle.std.proofs.Common.{◌≡◌, ◌≢◌, ◌⊎◌, inl, inr, ℕ, zero, suc, ◌+◌, ◌-◌, ◌≤◌, Bool, true, false, List, [], ◌∷◌, ◌++◌, length, map, Option, Some, None, option_map, refl, sym, ◌∙◌, ap, subst, arith, append_assoc, append-nil, length-append}
-use Rattle.std.proofs.lemmas.Bool.{eqb-true}
+use Rattle.std.proofs.lemmas.Bool.{and_parts, eqb-true}
 use Rattle.std.proofs.lemmas.Grind.{flat_map-append}
 use Rattle.std.proofs.lemmas.List.{map-append, length-map}
 use Rattle.std.specs.Prelude.{cond, if◌then◌else◌, slice_get, unwrap_or, option_and_then}
@@ -25,12 +25,12 @@ use Rattle.memfix_engine.specs.declared.draft.Release.{Release}
 use Rattle.memfix_engine.specs.declared.draft.Step.{Step}
 use Rattle.memfix_engine.specs.declared.draft.Draft.{Draft}
 use Rattle.memfix_engine.specs.declared.edit.Change.{Change}
-use Rattle.memfix_engine.specs.declared.reading.Reading.{Reading}
+use Rattle.memfix_engine.specs.declared.gathered.Gathered.{Gathered}
 use Rattle.memfix_engine.specs.Names.{names_of}
 use Rattle.memfix_engine.specs.Edit.{free_text}
 use Rattle.memfix_engine.proofs.FreeText.{free_tokens_of}
 use Rattle.memfix_engine.specs.Form.{start_at, step_of}
-use Rattle.memfix_engine.specs.Reading.{var_of, item_piece, gap_of, result_of, with_item, with_make, made, declared, stored, shown, released, stepped, stepped_by, read_from, nothing_read, whole_of}
+use Rattle.memfix_engine.specs.Gathered.{var_of, item_piece, gap_of, result_of, with_item, with_make, made, declared, stored, shown, released, stepped, stepped_by, read_from, nothing_read, whole_of}
 use Rattle.memfix_engine.specs.Edit.{is_of, are_put, blanks, name_of, written, gap_changes, piece_changes, changes}
 use Rattle.memfix_engine.specs.Own.{put_of}
 use Rattle.memfix_engine.specs.Repair.{return_puts}
@@ -39,7 +39,6 @@ use Rattle.memfix_engine.proofs.Straight.{AreFrees, gap_with, Straight, IsSound}
 use Rattle.memfix_engine.proofs.Emptied as marks
 use Rattle.memfix_engine.proofs.Emptied.{Marks, Emptied, step_blanks, marked_blanks, insertion, releases, cleared_piece, cleared, Clear}
 use Rattle.memfix_engine.proofs.EditAlike.{cleared_piece_is}
-use Rattle.memfix_engine.proofs.SoundLemmas.{left_of, right_of}
 use Rattle.memfix_engine.proofs.GapLemmas.{puts_elsewhere, puts_there, return_puts_are, gap_before, gap_before_is, all_vars, piece_changes_are, changes_of_whole}
 
 -- pieces with their gaps emptied
@@ -50,13 +49,13 @@ clear_of {k} {n} {l} (straight.more {i = i} {fs = fs} {ps = ps} start end f s t)
 
 -- what a step does with any pieces and frees
 
-abbrev with_parts : Reading → List Piece → List Free → Reading
+abbrev with_parts : Gathered → List Piece → List Free → Gathered
 with_parts r ps fs = record { vars = r.vars; pieces = ps; frees = fs }
 
-abbrev grown : Reading → List VarDef → Item → Step → Reading
+abbrev grown : Gathered → List VarDef → Item → Step → Gathered
 grown r vars i s = record { vars = vars; pieces = r.pieces ++ item_piece (gap_of r) i s.start s.end ∷ []; frees = [] }
 
-record ItemStep (r q : Reading) (s : Step) : Type 0 where
+record ItemStep (r q : Gathered) (s : Step) : Type 0 where
   vars : List VarDef
   item : Item
   is : q ≡ grown r vars item s
@@ -72,7 +71,7 @@ IsItem deed.Empty = ⊥
 some_is : {A : Type 0} (x y : A) → Some x ≡ Some y → y ≡ x
 some_is x y h = cc
 
-make_step : (r q : Reading) (s : Step) (t : Make) (o : Option ℕ) → s.deed ≡ deed.Make t → var_of r.vars t.name ≡ o → made r s t o ≡ Some q → ItemStep r q s
+make_step : (r q : Gathered) (s : Step) (t : Make) (o : Option ℕ) → s.deed ≡ deed.Make t → var_of r.vars t.name ≡ o → made r s t o ≡ Some q → ItemStep r q s
 make_step r q s t (Some x) at e h = absurd cc
 make_step r q s t None at e h = record {
   vars = (with_make r s t).vars;
@@ -81,7 +80,7 @@ make_step r q s t None at e h = record {
   again = λ ps fs. ap (stepped_by (with_parts r ps fs) s) at ∙ ap (made (with_parts r ps fs) s t) e;
 }
 
-use_step : (r q : Reading) (s : Step) (f : ℕ → Item) (name : List ℕ) (o : Option ℕ)
+use_step : (r q : Gathered) (s : Step) (f : ℕ → Item) (name : List ℕ) (o : Option ℕ)
     → ((ps : List Piece) (fs : List Free) → stepped (with_parts r ps fs) s ≡ option_map (λ x. with_item (with_parts r ps fs) (f x) s) (var_of r.vars name))
     → var_of r.vars name ≡ o → option_map (λ x. with_item r (f x) s) o ≡ Some q → ItemStep r q s
 use_step r q s f name None k e h = absurd cc
@@ -92,7 +91,7 @@ use_step r q s f name (Some x) k e h = record {
   again = λ ps fs. k ps fs ∙ ap (option_map (λ x. with_item (with_parts r ps fs) (f x) s)) e;
 }
 
-item_step : (r q : Reading) (s : Step) (d : Deed) → IsItem d → s.deed ≡ d → stepped_by r s d ≡ Some q → ItemStep r q s
+item_step : (r q : Gathered) (s : Step) (d : Deed) → IsItem d → s.deed ≡ d → stepped_by r s d ≡ Some q → ItemStep r q s
 item_step r q s (deed.Make t) i e h = make_step r q s t (var_of r.vars t.name) e refl h
 item_step r q s (deed.Store t) i e h =
     use_step r q s (stored t s.start) t.name (var_of r.vars t.name) (λ ps fs. ap (stepped_by (with_parts r ps fs) s) e) refl h
@@ -101,12 +100,12 @@ item_step r q s (deed.Show t) i e h =
 item_step r q s (deed.Release t) i e h = absurd i
 item_step r q s deed.Empty i e h = absurd i
 
-record ReleaseStep (r q : Reading) (s : Step) (t : Release) : Type 0 where
+record ReleaseStep (r q : Gathered) (s : Step) (t : Release) : Type 0 where
   variable : ℕ
   is : q ≡ released r s t variable
   again : (ps : List Piece) (fs : List Free) → stepped (with_parts r ps fs) s ≡ Some (released (with_parts r ps fs) s t variable)
 
-release_found : (r q : Reading) (s : Step) (t : Release) (o : Option ℕ) → s.deed ≡ deed.Release t → var_of r.vars t.name ≡ o → option_map (released r s t) o ≡ Some q
+release_found : (r q : Gathered) (s : Step) (t : Release) (o : Option ℕ) → s.deed ≡ deed.Release t → var_of r.vars t.name ≡ o → option_map (released r s t) o ≡ Some q
     → ReleaseStep r q s t
 release_found r q s t None at e h = absurd cc
 release_found r q s t (Some x) at e h = record {
@@ -115,20 +114,20 @@ release_found r q s t (Some x) at e h = record {
   again = λ ps fs. ap (stepped_by (with_parts r ps fs) s) at ∙ ap (option_map (released (with_parts r ps fs) s t)) e;
 }
 
-release_step : (r q : Reading) (s : Step) (t : Release) → s.deed ≡ deed.Release t → stepped r s ≡ Some q → ReleaseStep r q s t
+release_step : (r q : Gathered) (s : Step) (t : Release) → s.deed ≡ deed.Release t → stepped r s ≡ Some q → ReleaseStep r q s t
 release_step r q s t e h = release_found r q s t (var_of r.vars t.name) e refl (sym (ap (stepped_by r s) e) ∙ h)
 
--- the reading behind a first step
-record HasNext (r q : Reading) (s : Step) (ss : List Step) : Type 0 where
-  next : Reading
+-- what stands behind a first step
+record HasNext (r q : Gathered) (s : Step) (ss : List Step) : Type 0 where
+  next : Gathered
   stepped : stepped r s ≡ Some next
   rest : read_from next ss ≡ Some q
 
-next_by : (r q : Reading) (s : Step) (ss : List Step) (o : Option Reading) → stepped r s ≡ o → option_and_then (λ k. read_from k ss) o ≡ Some q → HasNext r q s ss
+next_by : (r q : Gathered) (s : Step) (ss : List Step) (o : Option Gathered) → stepped r s ≡ o → option_and_then (λ k. read_from k ss) o ≡ Some q → HasNext r q s ss
 next_by r q s ss None e h = absurd cc
 next_by r q s ss (Some k) e h = record { next = k; stepped = e; rest = h }
 
-next_of : (r q : Reading) (s : Step) (ss : List Step) → read_from r (s ∷ ss) ≡ Some q → HasNext r q s ss
+next_of : (r q : Gathered) (s : Step) (ss : List Step) → read_from r (s ∷ ss) ≡ Some q → HasNext r q s ss
 next_of r q s ss h = next_by r q s ss (stepped r s) refl h
 
 -- the marks
@@ -202,52 +201,52 @@ piece_blanks-snoc ts ps g i start end =
     (append-nil (free_blanks ts (gap_before (item_piece g i start end)).frees) ∙ ap (λ (h : Gap). free_blanks ts h.frees) (gap_before_is g i start end))
 
 -- the blanks in gaps before items, and in the gap behind them where that goes
-abbrev read_blanks : List Token → Bool → Reading → List Change
+abbrev read_blanks : List Token → Bool → Gathered → List Change
 read_blanks ts b r = piece_blanks ts r.pieces ++ when b (free_blanks ts r.frees)
 
-grown_blanks : (ts : List Token) (b : Bool) (r : Reading) (vars : List VarDef) (i : Item) (s : Step) → read_blanks ts b (grown r vars i s) ≡ read_blanks ts true r
+grown_blanks : (ts : List Token) (b : Bool) (r : Gathered) (vars : List VarDef) (i : Item) (s : Step) → read_blanks ts b (grown r vars i s) ≡ read_blanks ts true r
 grown_blanks ts b r vars i s =
     ap (λ (cs : List Change). piece_blanks ts (r.pieces ++ item_piece (gap_of r) i s.start s.end ∷ []) ++ cs) (when_none b)
     ∙ append-nil (piece_blanks ts (r.pieces ++ item_piece (gap_of r) i s.start s.end ∷ []))
     ∙ piece_blanks-snoc ts r.pieces (gap_of r) i s.start s.end
 
-released_blanks : (ts : List Token) (r : Reading) (s : Step) (t : Release) (x : ℕ) → read_blanks ts true (released r s t x) ≡ read_blanks ts true r ++ step_blanks ts s
+released_blanks : (ts : List Token) (r : Gathered) (s : Step) (t : Release) (x : ℕ) → read_blanks ts true (released r s t x) ≡ read_blanks ts true r ++ step_blanks ts s
 released_blanks ts r s t x =
     let one : Free = record { expr = expr.Var x t.name_at; start = s.start; end = s.end } in
     ap (λ (cs : List Change). piece_blanks ts r.pieces ++ cs)
     (flat_map-append (blanks ts) r.frees (one ∷ []) ∙ ap (λ (cs : List Change). free_blanks ts r.frees ++ cs) (append-nil (blanks ts one)))
     ∙ sym (append_assoc (piece_blanks ts r.pieces) (free_blanks ts r.frees) (step_blanks ts s))
 
-marked_read : (ts : List Token) (last front : Bool) (ms : List Bool) (ss : List Step) (r q : Reading) → Clearing last ms ss front → read_from r ss ≡ Some q
+marked_read : (ts : List Token) (last front : Bool) (ms : List Bool) (ss : List Step) (r q : Gathered) → Clearing last ms ss front → read_from r ss ≡ Some q
     → read_blanks ts last q ≡ read_blanks ts front r ++ marked_blanks ts ms ss
 marked_read ts last _ _ _ r q none h = ap (read_blanks ts last) (some_is r q h) ∙ sym (append-nil (read_blanks ts last r))
 marked_read ts last _ _ _ r q (item {ms} {ss} {front} s i g) h =
     let n : HasNext r q s ss = next_of r q s ss h in
     let k : ItemStep r n.next s = item_step r n.next s s.deed i refl n.stepped in
     marked_read ts last front ms ss n.next q g n.rest
-    ∙ ap (λ (x : Reading). read_blanks ts front x ++ marked_blanks ts ms ss) k.is
+    ∙ ap (λ (x : Gathered). read_blanks ts front x ++ marked_blanks ts ms ss) k.is
     ∙ ap (λ (cs : List Change). cs ++ marked_blanks ts ms ss) (grown_blanks ts front r k.vars k.item s)
 marked_read ts last _ _ _ r q (stays {ms} {ss} s t e g) h =
     let n : HasNext r q s ss = next_of r q s ss h in
     let k : ReleaseStep r n.next s t = release_step r n.next s t e n.stepped in
     marked_read ts last false ms ss n.next q g n.rest
-    ∙ ap (λ (x : Reading). read_blanks ts false x ++ marked_blanks ts ms ss) k.is
+    ∙ ap (λ (x : Gathered). read_blanks ts false x ++ marked_blanks ts ms ss) k.is
 marked_read ts last _ _ _ r q (goes {ms} {ss} s t e g) h =
     let n : HasNext r q s ss = next_of r q s ss h in
     let k : ReleaseStep r n.next s t = release_step r n.next s t e n.stepped in
     marked_read ts last true ms ss n.next q g n.rest
-    ∙ ap (λ (x : Reading). read_blanks ts true x ++ marked_blanks ts ms ss) k.is
+    ∙ ap (λ (x : Gathered). read_blanks ts true x ++ marked_blanks ts ms ss) k.is
     ∙ ap (λ (cs : List Change). cs ++ marked_blanks ts ms ss) (released_blanks ts r s t k.variable)
     ∙ append_assoc (read_blanks ts true r) (step_blanks ts s) (marked_blanks ts ms ss)
 marked_read ts last _ _ _ r q (lone {ms} {ss} {front} s e g) h =
     let n : HasNext r q s ss = next_of r q s ss h in
     let same : n.next ≡ r = some_is r n.next (sym (ap (stepped_by r s) e) ∙ n.stepped) in
     marked_read ts last front ms ss n.next q g n.rest
-    ∙ ap (λ (x : Reading). read_blanks ts front x ++ marked_blanks ts ms ss) same
+    ∙ ap (λ (x : Gathered). read_blanks ts front x ++ marked_blanks ts ms ss) same
 
 -- what is read where the marked ones have become blank
 
-grown_cleared : (b : Bool) (r : Reading) (vars : List VarDef) (i : Item) (s : Step) → grown (cleared r []) vars i s ≡ cleared (grown r vars i s) (unless b [])
+grown_cleared : (b : Bool) (r : Gathered) (vars : List VarDef) (i : Item) (s : Step) → grown (cleared r []) vars i s ≡ cleared (grown r vars i s) (unless b [])
 grown_cleared b r vars i s =
     let one = item_piece (gap_of r) i s.start s.end in
     ap (λ (k : ℕ). record { vars = vars; pieces = map cleared_piece r.pieces ++ item_piece (gap_with k []) i s.start s.end ∷ []; frees = [] }) (length-map r.pieces cleared_piece)
@@ -256,36 +255,36 @@ grown_cleared b r vars i s =
     ∙ ap (λ (fs : List Free). cleared (grown r vars i s) fs) (sym (unless_none b))
 
 -- one step, and the rest
-read_on : (r k q : Reading) (s : Step) (ss : List Step) → stepped r s ≡ Some k → read_from k ss ≡ Some q → read_from r (s ∷ ss) ≡ Some q
+read_on : (r k q : Gathered) (s : Step) (ss : List Step) → stepped r s ≡ Some k → read_from k ss ≡ Some q → read_from r (s ∷ ss) ≡ Some q
 read_on r k q s ss h rest = ap (option_and_then (λ x. read_from x ss)) h ∙ rest
 
-emptied_read : (last front : Bool) (ms : List Bool) (ss us : List Step) (r q : Reading) → Clearing last ms ss front → Emptied ms ss us → read_from r ss ≡ Some q
+emptied_read : (last front : Bool) (ms : List Bool) (ss us : List Step) (r q : Gathered) → Clearing last ms ss front → Emptied ms ss us → read_from r ss ≡ Some q
     → read_from (cleared r (unless front r.frees)) us ≡ Some (cleared q (unless last q.frees))
-emptied_read last _ _ _ _ r q none marks.none h = ap (λ (x : Reading). Some (cleared x (unless last x.frees))) (sym (some_is r q h))
+emptied_read last _ _ _ _ r q none marks.none h = ap (λ (x : Gathered). Some (cleared x (unless last x.frees))) (sym (some_is r q h))
 emptied_read last _ _ _ _ r q (item {ms} {ss} {front} s i g) (marks.stays {us = us} _ e) h =
     let n : HasNext r q s ss = next_of r q s ss h in
     let k : ItemStep r n.next s = item_step r n.next s s.deed i refl n.stepped in
     let same : grown (cleared r []) k.vars k.item s ≡ cleared n.next (unless front n.next.frees) =
-    grown_cleared front r k.vars k.item s ∙ ap (λ (x : Reading). cleared x (unless front x.frees)) (sym k.is) in
+    grown_cleared front r k.vars k.item s ∙ ap (λ (x : Gathered). cleared x (unless front x.frees)) (sym k.is) in
     read_on (cleared r []) (cleared n.next (unless front n.next.frees)) (cleared q (unless last q.frees)) s us
     (k.again (map cleared_piece r.pieces) [] ∙ ap Some same) (emptied_read last front ms ss us n.next q g e n.rest)
 emptied_read last _ _ _ _ r q (stays {ms} {ss} s t d g) (marks.stays {us = us} _ e) h =
     let n : HasNext r q s ss = next_of r q s ss h in
     let k : ReleaseStep r n.next s t = release_step r n.next s t d n.stepped in
     read_on (cleared r r.frees) (cleared n.next n.next.frees) (cleared q (unless last q.frees)) s us
-    (k.again (map cleared_piece r.pieces) r.frees ∙ ap (λ (x : Reading). Some (cleared x x.frees)) (sym k.is))
+    (k.again (map cleared_piece r.pieces) r.frees ∙ ap (λ (x : Gathered). Some (cleared x x.frees)) (sym k.is))
     (emptied_read last false ms ss us n.next q g e n.rest)
 emptied_read last _ _ _ _ r q (goes {ms} {ss} s t d g) (marks.empties {us = us} _ u _ _ blank e) h =
     let n : HasNext r q s ss = next_of r q s ss h in
     let k : ReleaseStep r n.next s t = release_step r n.next s t d n.stepped in
     read_on (cleared r []) (cleared n.next []) (cleared q (unless last q.frees)) u us
-    (ap (stepped_by (cleared r []) u) blank ∙ ap (λ (x : Reading). Some (cleared x [])) (sym k.is))
+    (ap (stepped_by (cleared r []) u) blank ∙ ap (λ (x : Gathered). Some (cleared x [])) (sym k.is))
     (emptied_read last true ms ss us n.next q g e n.rest)
 emptied_read last _ _ _ _ r q (lone {ms} {ss} {front} s d g) (marks.stays {us = us} _ e) h =
     let n : HasNext r q s ss = next_of r q s ss h in
     let same : n.next ≡ r = some_is r n.next (sym (ap (stepped_by r s) d) ∙ n.stepped) in
     read_on (cleared r (unless front r.frees)) (cleared n.next (unless front n.next.frees)) (cleared q (unless last q.frees)) s us
-    (ap (stepped_by (cleared r (unless front r.frees)) s) d ∙ ap (λ (x : Reading). Some (cleared x (unless front x.frees))) (sym same))
+    (ap (stepped_by (cleared r (unless front r.frees)) s) d ∙ ap (λ (x : Gathered). Some (cleared x (unless front x.frees))) (sym same))
     (emptied_read last front ms ss us n.next q g e n.rest)
 
 -- the frees that are written
@@ -324,7 +323,7 @@ found_from vars (w ∷ ws) i h =
     let z : i + 0 ≡ i = omega arith in
     (h 0 w refl ∙ ap Some z, found_from vars ws (i + 1) (λ k v g. let e : i + suc k ≡ (i + 1) + k = omega arith in h (suc k) v g ∙ ap Some e))
 
-read_releases : (at i : ℕ) (ws : List VarDef) (r : Reading) → AreFound r.vars i ws
+read_releases : (at i : ℕ) (ws : List VarDef) (r : Gathered) → AreFound r.vars i ws
     → read_from r (releases at (names_of ws)) ≡ Some (with_parts r r.pieces (r.frees ++ frees_from at i ws))
 read_releases at i [] r h = ap (λ (fs : List Free). Some (with_parts r r.pieces fs)) (sym (append-nil r.frees))
 read_releases at i (w ∷ ws) r h =
@@ -332,7 +331,7 @@ read_releases at i (w ∷ ws) r h =
     let rest = releases (at + length (free_text w.name)) (names_of ws) in
     let one : Free = record { expr = expr.Var i (start_at (free_tokens_of at w.name) 2); start = step.start; end = step.end } in
     let behind : List Free = frees_from (at + length (free_text w.name)) (i + 1) ws in
-    ap (λ (o : Option ℕ). option_and_then (λ (q : Reading). read_from q rest)
+    ap (λ (o : Option ℕ). option_and_then (λ (q : Gathered). read_from q rest)
     (option_map (released r step (record { name = w.name; name_at = start_at (free_tokens_of at w.name) 2 })) o)) h.0
     ∙ read_releases (at + length (free_text w.name)) (i + 1) ws (with_parts r r.pieces (r.frees ++ one ∷ [])) h.1
     ∙ ap (λ (fs : List Free). Some (with_parts r r.pieces fs)) (append_assoc r.frees (one ∷ []) behind)
@@ -353,10 +352,10 @@ all_put g n x zero _ straight.none h = let e : x ≡ x + 0 = omega arith in subs
 all_put g n x (suc m) _ straight.none h = absurd cc
 all_put g n x zero _ (straight.more {fs = fs} y at start end below rest) h = absurd cc
 all_put g n x (suc m) _ (straight.more {fs = fs} y at start end below rest) h =
-    let one : is_of None x (out-Expr (expr.Var y at)) ≡ true = left_of _ _ h in
+    let one : is_of None x (out-Expr (expr.Var y at)) ≡ true = (and_parts _ _ h).0 in
     let same : y ≡ x = eqb-true y x (sym (ap (is_of None x) (expr.outs-Var y at)) ∙ one) in
     let e : (x + 1) + m ≡ x + suc m = omega arith in
-    let behind : AllVars (x + 1) (x + suc m) fs = subst (λ (k : ℕ). AllVars (x + 1) k fs) e (all_put g n (x + 1) m fs rest (right_of _ _ h)) in
+    let behind : AllVars (x + 1) (x + suc m) fs = subst (λ (k : ℕ). AllVars (x + 1) k fs) e (all_put g n (x + 1) m fs rest (and_parts _ _ h).1) in
     subst (λ (z : ℕ). AllVars x (x + suc m) (record { expr = expr.Var z at; start = start; end = end } ∷ fs)) (sym same) (all.more at start end behind)
 
 -- the changes of the return choice
@@ -379,11 +378,11 @@ before_return ts vars g xs k n l _ (straight.more {m = m} {i = i} {fs = fs} {ps 
     ap (λ (cs : List Change). cs ++ flat_map (piece_changes ts vars (map (put_of g) xs)) ps) piece
     ∙ ap (λ (cs : List Change). free_blanks ts (gap_before (item_piece (gap_with k fs) i start end)).frees ++ cs) (before_return ts vars g xs (k + 1) m l ps t behind)
 
-abbrev puts_with : Reading → List Put
+abbrev puts_with : Gathered → List Put
 puts_with r = map (put_of (length r.pieces)) (range_with_len 0 (length r.vars))
 
 -- in the gaps before items, and in the return's
-return_changes : (ts : List Token) (d : Draft) (r : Reading) → IsSound r
+return_changes : (ts : List Token) (d : Draft) (r : Gathered) → IsSound r
     → changes ts (whole_of d r) (return_puts (whole_of d r)) ≡ piece_blanks ts r.pieces ++ gap_changes ts (all_vars d r) (puts_with r) d.return_at (gap_of r)
 return_changes ts d r sound =
     let g = length r.pieces in
@@ -401,13 +400,13 @@ return_changes ts d r sound =
     ∙ ap (λ (qs : List Put). piece_blanks ts r.pieces ++ gap_changes ts (all_vars d r) qs d.return_at (gap_of r)) (puts_there g xs)
 
 -- what is read off the steps that are left, with these names freed before the return
-pub record IsRead (d : Draft) (r : Reading) (us : List Step) (names : List (List ℕ)) : Type 0 where
+pub record IsRead (d : Draft) (r : Gathered) (us : List Step) (names : List (List ℕ)) : Type 0 where
   pub frees : List Free
   pub read : read_from nothing_read (us ++ releases d.return_at names) ≡ Some (cleared r frees)
   pub each : AllVars 0 (length r.vars) frees
 
 -- the marks of the repair: all frees before the return's gap, and those of the return's gap unless they are those of the choice
-pub record IsMarked (ts : List Token) (d : Draft) (r : Reading) : Type 0 where
+pub record IsMarked (ts : List Token) (d : Draft) (r : Gathered) : Type 0 where
   pub marks : List Bool
   pub names : List (List ℕ)
   pub valid : Marks marks d.steps
@@ -415,33 +414,33 @@ pub record IsMarked (ts : List Token) (d : Draft) (r : Reading) : Type 0 where
   pub changes_are : changes ts (whole_of d r) (return_puts (whole_of d r)) ≡ marked_blanks ts marks d.steps ++ map (insertion d.return_at) names
   pub frees : (us : List Step) → Emptied marks d.steps us → IsRead d r us names
 
-on_append : (xs ys : List Step) (o : Option Reading) → ((q : Reading) → read_from q (xs ++ ys) ≡ option_and_then (λ k. read_from k ys) (read_from q xs))
+on_append : (xs ys : List Step) (o : Option Gathered) → ((q : Gathered) → read_from q (xs ++ ys) ≡ option_and_then (λ k. read_from k ys) (read_from q xs))
     → option_and_then (λ q. read_from q (xs ++ ys)) o ≡ option_and_then (λ k. read_from k ys) (option_and_then (λ q. read_from q xs) o)
 on_append xs ys None f = refl
 on_append xs ys (Some q) f = f q
 
-read_from-append : (xs ys : List Step) (r : Reading) → read_from r (xs ++ ys) ≡ option_and_then (λ k. read_from k ys) (read_from r xs)
+read_from-append : (xs ys : List Step) (r : Gathered) → read_from r (xs ++ ys) ≡ option_and_then (λ k. read_from k ys) (read_from r xs)
 read_from-append [] ys r = refl
 read_from-append (s ∷ xs) ys r = on_append xs ys (stepped r s) (read_from-append xs ys)
 
 -- the blanks of all gaps before the return, and of the return's where that goes
-whole_blanks : (ts : List Token) (last : Bool) (d : Draft) (r : Reading) → (m : HasMarks last d.steps) → read_from nothing_read d.steps ≡ Some r
+whole_blanks : (ts : List Token) (last : Bool) (d : Draft) (r : Gathered) → (m : HasMarks last d.steps) → read_from nothing_read d.steps ≡ Some r
     → read_blanks ts last r ≡ marked_blanks ts m.marks d.steps
 whole_blanks ts last d r m read =
     marked_read ts last m.front m.marks d.steps nothing_read r m.are read
     ∙ ap (λ (cs : List Change). cs ++ marked_blanks ts m.marks d.steps) (when_none m.front)
 
-whole_emptied : (last : Bool) (d : Draft) (r : Reading) (us : List Step) → (m : HasMarks last d.steps) → read_from nothing_read d.steps ≡ Some r → Emptied m.marks d.steps us
+whole_emptied : (last : Bool) (d : Draft) (r : Gathered) (us : List Step) → (m : HasMarks last d.steps) → read_from nothing_read d.steps ≡ Some r → Emptied m.marks d.steps us
     → read_from nothing_read us ≡ Some (cleared r (unless last r.frees))
 whole_emptied last d r us m read e =
     ap (λ (fs : List Free). read_from (cleared nothing_read fs) us) (sym (unless_none m.front))
     ∙ emptied_read last m.front m.marks d.steps us nothing_read r m.are e read
 
-abbrev return_gap : List Token → Draft → Reading → Bool → List Change
+abbrev return_gap : List Token → Draft → Gathered → Bool → List Change
 return_gap ts d r b = if b then [] else free_blanks ts r.frees ++ map (written (all_vars d r) d.return_at) (puts_with r)
 
 -- the return's gap has the choice's frees
-kept_marked : (ts : List Token) (d : Draft) (r : Reading) → IsSound r → read_from nothing_read d.steps ≡ Some r → are_put r.frees (puts_with r) ≡ true → IsMarked ts d r
+kept_marked : (ts : List Token) (d : Draft) (r : Gathered) → IsSound r → read_from nothing_read d.steps ≡ Some r → are_put r.frees (puts_with r) ≡ true → IsMarked ts d r
 kept_marked ts d r sound read same =
     let m : HasMarks false d.steps = marks_of false d.steps in
     let zero_more : 0 + length r.vars ≡ length r.vars = omega arith in
@@ -462,7 +461,7 @@ kept_marked ts d r sound read same =
     }
 
 -- it has other frees
-goes_marked : (ts : List Token) (d : Draft) (r : Reading) → IsSound r → read_from nothing_read d.steps ≡ Some r → are_put r.frees (puts_with r) ≡ false → IsMarked ts d r
+goes_marked : (ts : List Token) (d : Draft) (r : Gathered) → IsSound r → read_from nothing_read d.steps ≡ Some r → are_put r.frees (puts_with r) ≡ false → IsMarked ts d r
 goes_marked ts d r sound read other =
     let m : HasMarks true d.steps = marks_of true d.steps in
     let names = names_of r.vars in
@@ -489,9 +488,9 @@ goes_marked ts d r sound read other =
       };
     }
 
-marked_by : (ts : List Token) (d : Draft) (r : Reading) → IsSound r → read_from nothing_read d.steps ≡ Some r → (b : Bool) → are_put r.frees (puts_with r) ≡ b → IsMarked ts d r
+marked_by : (ts : List Token) (d : Draft) (r : Gathered) → IsSound r → read_from nothing_read d.steps ≡ Some r → (b : Bool) → are_put r.frees (puts_with r) ≡ b → IsMarked ts d r
 marked_by ts d r sound read true e = kept_marked ts d r sound read e
 marked_by ts d r sound read false e = goes_marked ts d r sound read e
 
-pub marked : (ts : List Token) (d : Draft) (r : Reading) → IsSound r → read_from nothing_read d.steps ≡ Some r → IsMarked ts d r
+pub marked : (ts : List Token) (d : Draft) (r : Gathered) → IsSound r → read_from nothing_read d.steps ≡ Some r → IsMarked ts d r
 marked ts d r sound read = marked_by ts d r sound read (are_put r.frees (puts_with r)) refl

@@ -4,6 +4,7 @@ use Rattle.std.proofs.Common.{◌≡◌, ℕ, zero, suc, ◌+◌, ◌≤◌, Boo
 use Rattle.std.specs.Prelude.{filter}
 use Rattle.std.specs.List.{flat_map}
 use Rattle.std.proofs.lemmas.List.Elements.{All-head, All-tail}
+use Rattle.std.proofs.lemmas.Bool.{and_parts}
 use Rattle.c_lexer.specs.declared.token.Token.{Token}
 use Rattle.c_lexer.specs.Scan.{HasTokens}
 use Rattle.c_lexer.proofs.LocalPasses.{NoneRefused}
@@ -18,11 +19,11 @@ use Rattle.memfix_engine.specs.declared.edit.Change.{Change}
 use Rattle.memfix_engine.specs.Edit.{free_text}
 use Rattle.memfix_engine.proofs.FreeText.{IsName, free_tokens, free_tokens_of, shifted}
 use Rattle.memfix_engine.specs.Form.{fits, is_main, matches, wants, tail_pattern, number_at, start_at, step_of, draft_of, Steps, IsForm}
-use Rattle.memfix_engine.specs.Edit.{blanked, changed}
+use Rattle.memfix_engine.specs.Edit.{blanked, with_changes}
 use Rattle.memfix_engine.proofs.Emptied.{Marks, Emptied, step_blanks, marked_blanks, insertion, releases}
-use Rattle.memfix_engine.proofs.FormLemmas.{matches-length, Spells-step_of}
+use Rattle.memfix_engine.proofs.FormLemmas.{matches-length, IsStepOf-step_of}
 use Rattle.memfix_engine.proofs.FormTokens.{form_accepted}
-use Rattle.memfix_engine.proofs.TextLemmas.{Ascend, Ascend_at, Ascend_le, tokens_ascend, tokens_inserted}
+use Rattle.memfix_engine.proofs.TextLemmas.{Ascends, ascends_at, ascends_le, tokens_ascend, tokens_inserted}
 use Rattle.memfix_engine.proofs.ChangeLemmas.{Behind, Behind_insertions, inserted}
 use Rattle.memfix_engine.proofs.Blanks.{Kept, Kept_all, Kept_none, NoneRefused_append, NoneRefused_left, NoneRefused_right, kept_tokens, within_only}
 
@@ -35,7 +36,7 @@ pub releases-spelled : (at : ℕ) (xs : List (List ℕ)) → All (λ x. is_main 
 releases-spelled at [] h = Steps.none
 releases-spelled at (x ∷ xs) h =
     Steps.more (step_of pattern.Free (free_tokens_of at x)) (releases (at + length (free_text x)) xs) (free_tokens_of at x) (free_tokens (at + length (free_text x)) xs)
-    (Spells-step_of (free_tokens_of at x) pattern.Free (free_matches at x (All-head (λ y. is_main y ≡ false) x xs h)))
+    (IsStepOf-step_of (free_tokens_of at x) pattern.Free (free_matches at x (All-head (λ y. is_main y ≡ false) x xs h)))
     (releases-spelled (at + length (free_text x)) xs (All-tail (λ y. is_main y ≡ false) x xs h))
 
 pub Steps-append : {ss us : List Step} {ts vs : List Token} → Steps ss ts → Steps us vs → Steps (ss ++ us) (ts ++ vs)
@@ -76,16 +77,12 @@ record IsFree (s : Step) (ts : List Token) : Type 0 where
   end : s.end ≡ last.end
   semicolon : matches (wants pattern.Empty) (last ∷ []) ≡ true
 
-and_right : (a b : Bool) → (a && b) ≡ true → b ≡ true
-and_right true b h = h
-and_right false b h = absurd cc
-
 matches-drop : (n : ℕ) (ws : List Want) (ts : List Token) → matches ws ts ≡ true → matches (drop n ws) (drop n ts) ≡ true
 matches-drop zero ws ts h = h
 matches-drop (suc n) [] [] h = h
 matches-drop (suc n) [] (t ∷ ts) h = absurd cc
 matches-drop (suc n) (w ∷ ws) [] h = absurd cc
-matches-drop (suc n) (w ∷ ws) (t ∷ ts) h = matches-drop n ws ts (and_right (fits w t.kind) (matches ws ts) h)
+matches-drop (suc n) (w ∷ ws) (t ∷ ts) h = matches-drop n ws ts (and_parts (fits w t.kind) (matches ws ts) h).1
 
 five : (s : Step) (ts : List Token) → 5 ≡ length ts → matches (wants pattern.Free) ts ≡ true → s ≡ step_of pattern.Free ts → IsFree s ts
 five s [] n h e = absurd (omega (arith, n))
@@ -120,7 +117,7 @@ record IsBlanked (all : List Token) (ms : List Bool) (ss : List Step) (body : Li
   kept : Kept body left (marked_blanks all ms ss)
   spelled : Steps steps left
 
-free_blanks : (all front behind : List Token) (l : ℕ) (s : Step) (f : List Token) (p : IsFree s f) → all ≡ front ++ (f ++ behind) → Ascend 0 all l
+free_blanks : (all front behind : List Token) (l : ℕ) (s : Step) (f : List Token) (p : IsFree s f) → all ≡ front ++ (f ++ behind) → Ascends 0 all l
     → step_blanks all s ≡ map blanked (p.first ∷ p.more)
 free_blanks all front behind l s f p e h =
     let parts : all ≡ front ++ p.first ∷ (p.more ++ p.last ∷ behind) =
@@ -128,10 +125,10 @@ free_blanks all front behind l s f p e h =
     ap (λ n. map blanked (filter (λ t. nat_le n t.start && nat_lt t.end s.end) all)) p.start
     ∙ ap (λ n. map blanked (filter (λ t. nat_le p.first.start t.start && nat_lt t.end n) all)) p.end
     ∙ ap (λ ts. map blanked (filter (λ t. nat_le p.first.start t.start && nat_lt t.end p.last.end) ts)) parts
-    ∙ ap (map blanked) (within_only front p.more behind p.first p.last l (subst (λ ts. Ascend 0 ts l) parts h))
+    ∙ ap (map blanked) (within_only front p.more behind p.first p.last l (subst (λ ts. Ascends 0 ts l) parts h))
 
 blanked_steps : (all front rest : List Token) (l : ℕ) {ms : List Bool} {ss : List Step} {body : List Token} → Steps ss body → Marks ms ss
-    → all ≡ front ++ (body ++ rest) → Ascend 0 all l → IsBlanked all ms ss body
+    → all ≡ front ++ (body ++ rest) → Ascends 0 all l → IsBlanked all ms ss body
 blanked_steps all front rest l Steps.none Marks.none e h = record { left = []; steps = []; emptied = Emptied.none; kept = Kept.none; spelled = Steps.none }
 blanked_steps all front rest l (Steps.more s ss f r k steps) (Marks.stays _ marks) e h =
     let next : all ≡ (front ++ f) ++ (r ++ rest) = e ∙ ap (λ ts. front ++ ts) (append_assoc f r rest) ∙ sym (append_assoc front f (r ++ rest)) in
@@ -161,7 +158,7 @@ blanked_steps all front rest l (Steps.more s ss f r k steps) (Marks.empties {ms 
       kept =
           subst (λ ts. Kept ts (p.last ∷ behind.left) (step_blanks all s ++ cs)) tokens
           (subst (λ ds. Kept (p.first ∷ (p.more ++ p.last ∷ r)) (p.last ∷ behind.left) (ds ++ cs)) (sym (free_blanks all front (r ++ rest) l s f p split h)) kept);
-      spelled = Steps.more u behind.steps (p.last ∷ []) behind.left (Spells-step_of (p.last ∷ []) pattern.Empty p.semicolon) behind.spelled;
+      spelled = Steps.more u behind.steps (p.last ∷ []) behind.left (IsStepOf-step_of (p.last ∷ []) pattern.Empty p.semicolon) behind.spelled;
     }
 
 -- ---- the whole text
@@ -181,7 +178,7 @@ pub record IsEdited (b : List ℕ) (ts : List Token) (d : Draft) (ms : List Bool
   pub draft : Draft
   pub steps : List Step
   pub emptied : Emptied ms d.steps steps
-  pub scanned : HasTokens (changed 0 (marked_blanks ts ms d.steps ++ map (insertion d.return_at) names) b) tokens
+  pub scanned : HasTokens (with_changes 0 (marked_blanks ts ms d.steps ++ map (insertion d.return_at) names) b) tokens
   pub form : IsForm tokens draft
   pub steps_are : draft.steps ≡ steps ++ releases d.return_at names
   pub number : draft.number ≡ d.number
@@ -189,11 +186,11 @@ pub record IsEdited (b : List ℕ) (ts : List Token) (d : Draft) (ms : List Bool
 -- the text with the new statements alone
 written_tokens : (b : List ℕ) (ts : List Token) (d : Draft) (names : List (List ℕ)) (front us : List Token) (t : Token) → HasTokens b ts → NoneRefused ts
     → ts ≡ front ++ t ∷ us → d.return_at ≡ t.start → All IsName names
-    → HasTokens (changed 0 (map (insertion d.return_at) names) b) (front ++ (free_tokens t.start names ++ map (shifted (length (flat_map free_text names))) (t ∷ us)))
+    → HasTokens (with_changes 0 (map (insertion d.return_at) names) b) (front ++ (free_tokens t.start names ++ map (shifted (length (flat_map free_text names))) (t ∷ us)))
 written_tokens b ts d names front us t s accepted parts place named =
     let n = length (flat_map free_text names) in
-    let text : changed 0 (map (insertion d.return_at) names) b ≡ take t.start b ++ flat_map free_text names ++ drop t.start b =
-    ap (λ at. changed 0 (map (insertion at) names) b) place ∙ inserted t.start names b in
+    let text : with_changes 0 (map (insertion d.return_at) names) b ≡ take t.start b ++ flat_map free_text names ++ drop t.start b =
+    ap (λ at. with_changes 0 (map (insertion at) names) b) place ∙ inserted t.start names b in
     let grouped : front ++ free_tokens t.start names ++ map (shifted n) (t ∷ us) ≡ front ++ (free_tokens t.start names ++ map (shifted n) (t ∷ us)) =
     append_assoc front (free_tokens t.start names) (map (shifted n) (t ∷ us)) in
     subst (λ w. HasTokens w (front ++ (free_tokens t.start names ++ map (shifted n) (t ∷ us)))) (sym text)
@@ -203,11 +200,11 @@ written_tokens b ts d names front us t s accepted parts place named =
 -- and then with the blanks before them
 edited_tokens : (b : List ℕ) (ts : List Token) (d : Draft) (names : List (List ℕ)) (front left us : List Token) (t : Token) (cs : List Change)
     → HasTokens b ts → NoneRefused ts → ts ≡ front ++ t ∷ us → d.return_at ≡ t.start → All IsName names → Kept front left cs
-    → HasTokens (changed 0 (cs ++ map (insertion d.return_at) names) b) (left ++ (free_tokens t.start names ++ map (shifted (length (flat_map free_text names))) (t ∷ us)))
+    → HasTokens (with_changes 0 (cs ++ map (insertion d.return_at) names) b) (left ++ (free_tokens t.start names ++ map (shifted (length (flat_map free_text names))) (t ∷ us)))
 edited_tokens b ts d names front left us t cs s accepted parts place named kept =
     let n = length (flat_map free_text names) in
-    let ascends = Ascend_at 0 front us t (length b) (subst (λ x. Ascend 0 x (length b)) parts (tokens_ascend b ts s)) in
-    let within : t.start ≤ length b = omega (arith, ascends.1, Ascend_le t.end us (length b) ascends.2) in
+    let ascends = ascends_at 0 front us t (length b) (subst (λ x. Ascends 0 x (length b)) parts (tokens_ascend b ts s)) in
+    let within : t.start ≤ length b = omega (arith, ascends.1, ascends_le t.end us (length b) ascends.2) in
     let all : NoneRefused (front ++ t ∷ us) = subst NoneRefused parts accepted in
     let behind : Behind t.start (map (insertion d.return_at) names) =
     subst (λ at. Behind at (map (insertion d.return_at) names)) place (Behind_insertions d.return_at names) in

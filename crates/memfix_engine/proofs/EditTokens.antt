@@ -1,21 +1,16 @@
 -- Where tokens stand in order, those within a free stand side by side.
-use Rattle.std.proofs.Common.{◌≡◌, ℕ, zero, suc, ◌+◌, ◌<◌, ◌≤◌, Bool, true, false, nat_lt, nat_le, ◌&&◌, List, [], ◌∷◌, length, get_or, take, drop, refl, ap, ◌∙◌, arith, subst}
+use Rattle.std.proofs.Common.{◌≡◌, ℕ, zero, suc, ◌+◌, ◌<◌, ◌≤◌, true, false, nat_lt, nat_le, ◌&&◌, List, [], ◌∷◌, length, get_or, take, drop, refl, ap, ◌∙◌, arith, subst}
 use Rattle.std.specs.Prelude.{filter}
 use Rattle.std.specs.List.{AllWithin}
 use Rattle.std.specs.List.Sorted.{IsNonDecreasingBy, IsPartitionPoint}
 use Rattle.std.proofs.lemmas.List.Sorted.{IsNonDecreasingBy-from_all_adjacent}
 use Rattle.std.proofs.lemmas.Bool.Decides.{nat_tests}
 use Rattle.std.proofs.lemmas.Grind.{common_steps}
+use Rattle.std.proofs.lemmas.Bool.{and_parts}
 use Rattle.c_lexer.specs.declared.token.Token.{Token}
 use Rattle.c_tree.specs.declared.program.Free.{Free}
 use Rattle.memfix_engine.specs.Edit.{is_within, stand_in_order, AreInOrder}
-use Rattle.memfix_engine.proofs.TextLemmas.{Ascend}
-
-and_left : (a b : Bool) → (a && b) ≡ true → a ≡ true
-and_left a b h = grind (arith, nat_tests)
-
-and_right : (a b : Bool) → (a && b) ≡ true → b ≡ true
-and_right a b h = grind (arith, nat_tests)
+use Rattle.memfix_engine.proofs.TextLemmas.{Ascends}
 
 at_most : (m n : ℕ) → nat_le m n ≡ true → m ≤ n
 at_most m n h = grind (arith, nat_tests)
@@ -31,11 +26,11 @@ record Stands (at : ℕ) (t : Token) (ts : List Token) : Type 0 where
 
 stands : (at : ℕ) (t : Token) (ts : List Token) → stand_in_order at (t ∷ ts) ≡ true → Stands at t ts
 stands at t ts h =
-    let front = and_left (nat_le at t.start && nat_le t.start t.end) (stand_in_order t.end ts) h in
+    let front = (and_parts (nat_le at t.start && nat_le t.start t.end) (stand_in_order t.end ts) h).0 in
     record {
-      begins = at_most at t.start (and_left (nat_le at t.start) (nat_le t.start t.end) front);
-      ends = at_most t.start t.end (and_right (nat_le at t.start) (nat_le t.start t.end) front);
-      behind = and_right (nat_le at t.start && nat_le t.start t.end) (stand_in_order t.end ts) h;
+      begins = at_most at t.start (and_parts (nat_le at t.start) (nat_le t.start t.end) front).0;
+      ends = at_most t.start t.end (and_parts (nat_le at t.start) (nat_le t.start t.end) front).1;
+      behind = (and_parts (nat_le at t.start && nat_le t.start t.end) (stand_in_order t.end ts) h).1;
     }
 
 starts_rise : (at : ℕ) (ts : List Token) → stand_in_order at ts ≡ true → (k : ℕ) (d : Token) → k + 1 < length ts → (get_or ts k d).start ≤ (get_or ts (k + 1) d).start
@@ -130,11 +125,11 @@ pub around_from : (ts : List Token) (f : Free) (s n : ℕ) (us : List Token)
     → IsPartitionPoint (λ (t : Token). nat_lt t.end f.end ≡ true) (λ (t : Token). nat_lt t.end f.end ≡ false) us n → AreAround ts us f s n
 around_from ts f s n us first last = record { before = first.0; from = first.1; inside = last.0; past = last.1 }
 
-in_order : (at : ℕ) (ts : List Token) (l : ℕ) → Ascend at ts l → stand_in_order at ts ≡ true
+in_order : (at : ℕ) (ts : List Token) (l : ℕ) → Ascends at ts l → stand_in_order at ts ≡ true
 in_order at [] l h = refl
 in_order at (t ∷ ts) l h =
     rw (is_at_most at t.start h.0, is_at_most t.start t.end (omega (arith, h.1))) (in_order t.end ts l h.2)
 
 -- the tokens of a text stand in order
-pub Ascend_in_order : (ts : List Token) (l : ℕ) → Ascend 0 ts l → AreInOrder ts
-Ascend_in_order ts l h = in_order 0 ts l h
+pub ascends_in_order : (ts : List Token) (l : ℕ) → Ascends 0 ts l → AreInOrder ts
+ascends_in_order ts l h = in_order 0 ts l h

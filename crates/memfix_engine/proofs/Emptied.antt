@@ -10,11 +10,11 @@ use Rattle.memfix_engine.specs.declared.draft.Pattern.TheVariants as pattern
 use Rattle.memfix_engine.specs.declared.draft.Release.{Release}
 use Rattle.memfix_engine.specs.declared.draft.Step.{Step}
 use Rattle.memfix_engine.specs.declared.edit.Change.{Change}
-use Rattle.memfix_engine.specs.declared.reading.Reading.{Reading}
+use Rattle.memfix_engine.specs.declared.gathered.Gathered.{Gathered}
 use Rattle.memfix_engine.specs.Edit.{free_text}
 use Rattle.memfix_engine.proofs.FreeText.{free_tokens_of}
 use Rattle.memfix_engine.specs.Form.{step_of}
-use Rattle.memfix_engine.specs.Reading.{item_piece}
+use Rattle.memfix_engine.specs.Gathered.{item_piece}
 use Rattle.memfix_engine.specs.Edit.{blanked}
 use Rattle.memfix_engine.proofs.Straight.{IsStraight, gap_with}
 
@@ -55,7 +55,7 @@ releases at (x ∷ xs) = step_of pattern.Free (free_tokens_of at x) ∷ releases
 abbrev pub cleared_piece : Piece → Piece
 cleared_piece p = roll-Piece (record (out-Piece p) { gap = emptied (out-Piece p).gap })
 
-abbrev pub cleared : Reading → List Free → Reading
+abbrev pub cleared : Gathered → List Free → Gathered
 cleared r fs = record r { pieces = map cleared_piece r.pieces; frees = fs }
 
 -- items behind empty gaps that are numbered from k on

@@ -1,10 +1,10 @@
 -- Patterns and the token lists that they match, and the steps of a token list.
-use Rattle.std.proofs.Common.{◌≡◌, ℕ, suc, ◌+◌, ◌<◌, ◌≤◌, Bool, true, false, ◌&&◌, ◌==◌, List, [], ◌∷◌, ◌++◌, length, take, drop, Option, Some, None, refl, sym, ◌∙◌, ap, subst, arith, append_assoc}
+use Rattle.std.proofs.Common.{◌≡◌, ℕ, suc, ◌+◌, ◌<◌, ◌≤◌, Bool, true, false, ◌&&◌, ◌==◌, List, [], ◌∷◌, ◌++◌, length, take, drop, Some, None, refl, sym, ◌∙◌, ap, subst, arith, append_assoc}
 use Rattle.std.proofs.Math.Dec.{eqb-suc-zero, eqb-zero-suc, eqb-suc-suc}
 use Rattle.std.proofs.Math.Bool.{and-false}
 use Rattle.std.proofs.Math.Seq.{take-append_seam, drop-append_seam, take-add}
-use Rattle.std.proofs.lemmas.Bool.{eqb-true}
-use Rattle.std.proofs.lemmas.List.{take_all, length-take, take-append-drop}
+use Rattle.std.proofs.lemmas.Bool.{and_parts, eqb-true}
+use Rattle.std.proofs.lemmas.List.{take_all, length-take, take-append-drop, append-nil}
 use Rattle.std.specs.List.{list_all, zip}
 use Rattle.std.specs.Prelude.{if◌then◌else◌, option_and_then}
 use Rattle.c_lexer.specs.declared.token.Token.{Token}
@@ -17,7 +17,7 @@ use Rattle.memfix_engine.specs.declared.draft.Pattern.{Pattern}
 use Rattle.memfix_engine.specs.declared.draft.Pattern.TheVariants as pattern
 use Rattle.memfix_engine.specs.declared.draft.Step.{Step}
 use Rattle.memfix_engine.specs.declared.draft.Draft.{Draft}
-use Rattle.memfix_engine.specs.Form.{fits, matches, wants, begins, candidate, candidate_at, pattern_at, head_pattern, tail_pattern, draft_of, IsForm, Spells, Steps, none, more, step_of}
+use Rattle.memfix_engine.specs.Form.{fits, matches, wants, has_pattern, candidate, pattern_at, head_pattern, tail_pattern, draft_of, IsForm, IsStepOf, Steps, none, more, step_of}
 
 swap_and : (a b c : Bool) → (a && (b && c)) ≡ (b && (a && c))
 swap_and true true c = refl
@@ -37,15 +37,11 @@ matches-pairs (w ∷ ws) (t ∷ ts) =
 
 pub ruleset pairs = (matches-pairs)
 
-and_right : (a b : Bool) → (a && b) ≡ true → b ≡ true
-and_right true b h = h
-and_right false b h = cc
-
 pub matches-length : (ws : List Want) (ts : List Token) → matches ws ts ≡ true → length ws ≡ length ts
 matches-length [] [] h = refl
 matches-length [] (t ∷ ts) h = cc
 matches-length (w ∷ ws) [] h = cc
-matches-length (w ∷ ws) (t ∷ ts) h = ap suc (matches-length ws ts (and_right _ _ h))
+matches-length (w ∷ ws) (t ∷ ts) h = ap suc (matches-length ws ts (and_parts _ _ h).1)
 
 matches-short : (ws : List Want) (ts : List Token) → length ts < length ws → matches ws ts ≡ false
 matches-short [] ts h = absurd (omega arith)
@@ -54,49 +50,23 @@ matches-short (w ∷ ws) (t ∷ ts) h =
     let e : matches ws ts ≡ false = matches-short ws ts (omega arith) in
     rw e (and-false (fits w t.kind))
 
-pub begins-short : (ts : List Token) (p : Pattern) → length ts < length (wants p) → begins ts p ≡ false
-begins-short ts p h =
+pub has_pattern-short : (ts : List Token) (p : Pattern) → length ts < length (wants p) → has_pattern ts p ≡ false
+has_pattern-short ts p h =
     let e : take (length (wants p)) ts ≡ ts = take_all (length (wants p)) ts (omega arith) in
     ap (matches (wants p)) e ∙ matches-short (wants p) ts h
 
-pub begins-length : (ts : List Token) (p : Pattern) → begins ts p ≡ true → length (wants p) ≤ length ts
-begins-length ts p h = omega (arith, matches-length (wants p) (take (length (wants p)) ts) h, length-take (length (wants p)) ts)
-
-pub wants-some : (p : Pattern) → 0 < length (wants p)
-wants-some pattern.Make = omega arith
-wants-some pattern.Store = omega arith
-wants-some pattern.Show = omega arith
-wants-some pattern.Free = omega arith
-wants-some pattern.Empty = omega arith
-
-chosen : (ts : List Token) (q p : Pattern) (b : Bool) → begins ts q ≡ b → (if b then Some q else None) ≡ Some p → begins ts p ≡ true
-chosen ts q p true e h = let s : q ≡ p = cc in subst (λ r. begins ts r ≡ true) s e
-chosen ts q p false e h = cc
-
-from_candidate : (ts : List Token) (c : Option Pattern) (p : Pattern) → option_and_then (λ q. if begins ts q then Some q else None) c ≡ Some p → begins ts p ≡ true
-from_candidate ts None p h = cc
-from_candidate ts (Some q) p h = chosen ts q p (begins ts q) refl h
-
-pub pattern_at-begins : (ts : List Token) (p : Pattern) → pattern_at ts ≡ Some p → begins ts p ≡ true
-pattern_at-begins ts p h = from_candidate ts (candidate_at ts) p h
-
-append_nil : {A : Type 0} (xs : List A) → xs ++ [] ≡ xs
-append_nil [] = refl
-append_nil (x ∷ xs) = ap (λ ys. x ∷ ys) (append_nil xs)
+pub has_pattern-length : (ts : List Token) (p : Pattern) → has_pattern ts p ≡ true → length (wants p) ≤ length ts
+has_pattern-length ts p h = omega (arith, matches-length (wants p) (take (length (wants p)) ts) h, length-take (length (wants p)) ts)
 
 -- one more step at the end
-pub Steps-snoc : (ss : List Step) (ts : List Token) (s : Step) (front : List Token) → Steps ss ts → Spells s front → Steps (ss ++ s ∷ []) (ts ++ front)
-Steps-snoc _ _ s front none h = subst (Steps (s ∷ [])) (append_nil front) (more s [] front [] h none)
+pub Steps-snoc : (ss : List Step) (ts : List Token) (s : Step) (front : List Token) → Steps ss ts → IsStepOf s front → Steps (ss ++ s ∷ []) (ts ++ front)
+Steps-snoc _ _ s front none h = subst (Steps (s ∷ [])) (append-nil front) (more s [] front [] h none)
 Steps-snoc _ _ s front (more s' ss f rest k steps) h =
     subst (Steps (s' ∷ (ss ++ s ∷ []))) (sym (append_assoc f rest front)) (more s' (ss ++ s ∷ []) f (rest ++ front) k (Steps-snoc ss rest s front steps h))
 
 -- the step that a match reads off
-pub Spells-step_of : (ts : List Token) (p : Pattern) → matches (wants p) ts ≡ true → Spells (step_of p ts) ts
-Spells-step_of ts p h = record { pattern = p; matched = h; read = refl }
-
-and_left : (a b : Bool) → (a && b) ≡ true → a ≡ true
-and_left true b h = refl
-and_left false b h = cc
+pub IsStepOf-step_of : (ts : List Token) (p : Pattern) → matches (wants p) ts ≡ true → IsStepOf (step_of p ts) ts
+IsStepOf-step_of ts p h = record { pattern = p; matched = h; read = refl }
 
 for_make : (k : Kind) → fits (Key KEY_INT) k ≡ true → candidate k ≡ Some pattern.Make
 for_make (kind.Key n) h = subst (λ m. candidate (kind.Key m) ≡ Some pattern.Make) (eqb-true KEY_INT n h) refl
@@ -124,14 +94,14 @@ for_none (kind.Key n) h = subst (λ m. candidate (kind.Key m) ≡ None) (eqb-tru
 for_none _ h = cc
 
 pub called_for : (p : Pattern) (t : Token) (ts : List Token) → matches (wants p) (t ∷ ts) ≡ true → candidate t.kind ≡ Some p
-called_for pattern.Make t ts h = for_make t.kind (and_left _ _ h)
-called_for pattern.Store t ts h = for_store t.kind (and_left _ _ h)
-called_for pattern.Show t ts h = for_show t.kind (and_left _ _ h)
-called_for pattern.Free t ts h = for_free t.kind (and_left _ _ h)
-called_for pattern.Empty t ts h = for_empty t.kind (and_left _ _ h)
+called_for pattern.Make t ts h = for_make t.kind (and_parts _ _ h).0
+called_for pattern.Store t ts h = for_store t.kind (and_parts _ _ h).0
+called_for pattern.Show t ts h = for_show t.kind (and_parts _ _ h).0
+called_for pattern.Free t ts h = for_free t.kind (and_parts _ _ h).0
+called_for pattern.Empty t ts h = for_empty t.kind (and_parts _ _ h).0
 
-begins-front : (p : Pattern) (front rest : List Token) → matches (wants p) front ≡ true → begins (front ++ rest) p ≡ true
-begins-front p front rest h =
+has_pattern-front : (p : Pattern) (front rest : List Token) → matches (wants p) front ≡ true → has_pattern (front ++ rest) p ≡ true
+has_pattern-front p front rest h =
     let e : take (length (wants p)) (front ++ rest) ≡ front =
     ap (λ n. take n (front ++ rest)) (matches-length (wants p) front h) ∙ take-append_seam front rest in
     ap (matches (wants p)) e ∙ h
@@ -144,12 +114,12 @@ pattern_at-front pattern.Show [] rest h = cc
 pattern_at-front pattern.Free [] rest h = cc
 pattern_at-front pattern.Empty [] rest h = cc
 pattern_at-front p (t ∷ front) rest h =
-    ap (option_and_then (λ q. if begins (t ∷ (front ++ rest)) q then Some q else None)) (called_for p t front h)
-    ∙ ap (λ b. if b then Some p else None) (begins-front p (t ∷ front) rest h)
+    ap (option_and_then (λ q. if has_pattern (t ∷ (front ++ rest)) q then Some q else None)) (called_for p t front h)
+    ∙ ap (λ b. if b then Some p else None) (has_pattern-front p (t ∷ front) rest h)
 
 pub pattern_at-tail : (ts : List Token) → matches tail_pattern ts ≡ true → pattern_at ts ≡ None
 pattern_at-tail [] h = cc
-pattern_at-tail (t ∷ ts) h = ap (option_and_then (λ q. if begins (t ∷ ts) q then Some q else None)) (for_none t.kind (and_left _ _ h))
+pattern_at-tail (t ∷ ts) h = ap (option_and_then (λ q. if has_pattern (t ∷ ts) q then Some q else None)) (for_none t.kind (and_parts _ _ h).0)
 
 -- two readings of one token list up to where no step begins
 pub record SameReading (ss us : List Step) (body front tail rest : List Token) : Type 0 where
@@ -216,6 +186,6 @@ IsForm-tail ts ss n steps ended d h =
     ap (matches tail_pattern) reading.left ∙ h.ends
 
 -- the step that begins behind n tokens
-pub Steps-read : (ss : List Step) (ts : List Token) (n m : ℕ) (s : Step) → Steps ss (take n ts) → Spells s (take m (drop n ts))
+pub Steps-read : (ss : List Step) (ts : List Token) (n m : ℕ) (s : Step) → Steps ss (take n ts) → IsStepOf s (take m (drop n ts))
     → Steps (ss ++ s ∷ []) (take (n + m) ts)
 Steps-read ss ts n m s steps h = subst (Steps (ss ++ s ∷ [])) (sym (take-add n m ts)) (Steps-snoc ss (take n ts) s (take m (drop n ts)) steps h)

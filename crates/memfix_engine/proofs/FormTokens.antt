@@ -1,16 +1,16 @@
 -- The lexer refuses no tokens of the first form.
 use Rattle.std.proofs.Common.{◌≡◌, Bool, true, false, not, ◌&&◌, List, [], ◌∷◌, ◌++◌, None, refl, sym, ◌∙◌, ap, subst, append_assoc}
 use Rattle.std.specs.Prelude.{codes, nat_lt, if◌then◌else◌, Some, Option, ℕ}
-use Rattle.std.proofs.lemmas.Bool.{eqb-true, and_parts}
+use Rattle.std.proofs.lemmas.Bool.{eqb-true, and_parts, not-true}
 use Rattle.std.proofs.lemmas.List.{append-nil}
 use Rattle.c_lexer.specs.declared.token.Token.{Token}
 use Rattle.c_lexer.specs.declared.token.Kind.{Kind}
 use Rattle.c_lexer.specs.declared.token.Kind.TheVariants as kind
-use Rattle.c_lexer.specs.declared.mark.Mark.{Mark}
-use Rattle.c_lexer.specs.declared.mark.Mark.TheVariants as mark
-use Rattle.c_lexer.specs.Nest.{Nesting, at_first, first_deep, is_word, next_is, mark_of, key_mark, punctuator_mark, changed, behind, nest, deepest}
+use Rattle.c_lexer.specs.declared.role.Role.{Role}
+use Rattle.c_lexer.specs.declared.role.Role.TheVariants as role
+use Rattle.c_lexer.specs.Nest.{Nesting, at_first, first_deep, is_word, next_is, role_of, key_role, punctuator_role, nesting_after, behind, nest, deepest}
 use Rattle.c_lexer.specs.Outcome.{first_refused, refused_or}
-use Rattle.c_lexer.proofs.LocalPiece.{IsAccepted}
+use Rattle.c_lexer.proofs.LocalElement.{IsAccepted}
 use Rattle.c_lexer.proofs.LocalPasses.{NoneRefused}
 use Rattle.memfix_engine.specs.declared.draft.Want.{Want}
 use Rattle.memfix_engine.specs.declared.draft.Want.TheVariants.{Key, Punct, Name, Main, Number, Format}
@@ -47,15 +47,11 @@ abbrev are_plain : List Want → Bool
 are_plain [] = true
 are_plain (w ∷ ws) = is_plain w && are_plain ws
 
-negated : (b : Bool) → not b ≡ true → b ≡ false
-negated false h = refl
-negated true h = cc
-
 fit_plain : (w : Want) (k : Kind) → is_plain w ≡ true → fits w k ≡ true → IsPlain k
 fit_plain (Key n) (kind.Key m) h f =
     let parts = and_parts (not (is_word (kind.Key n) (codes "if"))) (not (is_word (kind.Key n) (codes "else"))) h in
     let same : n ≡ m = eqb-true n m f in
-    subst (λ x. IsPlain (kind.Key x)) same (record { accepted = tt; no_if = negated _ parts.0; no_else = negated _ parts.1 })
+    subst (λ x. IsPlain (kind.Key x)) same (record { accepted = tt; no_if = not-true _ parts.0; no_else = not-true _ parts.1 })
 fit_plain (Punct n) (kind.Punct m) h f = record { accepted = tt; no_if = refl; no_else = refl }
 fit_plain Name (kind.Name word) h f = record { accepted = tt; no_if = refl; no_else = refl }
 fit_plain Main (kind.Name word) h f = record { accepted = tt; no_if = refl; no_else = refl }
@@ -114,13 +110,13 @@ form_not_refused ts d h = accepted_not_refused ts (form_accepted ts d h)
 
 -- what a token of a pattern changes of the nest
 
-abbrev want_mark : Want → Mark
-want_mark (Key n) = key_mark false n false
-want_mark (Punct n) = punctuator_mark n
-want_mark w = mark.Nothing
+abbrev want_role : Want → Role
+want_role (Key n) = key_role false n false
+want_role (Punct n) = punctuator_role n
+want_role w = role.Nothing
 
 abbrev moved : Want → Nesting → Nesting
-moved w n = changed (want_mark w) false n
+moved w n = nesting_after (want_role w) false n
 
 abbrev moved_all : List Want → Nesting → Nesting
 moved_all [] n = n
@@ -139,19 +135,19 @@ next_no_if : (ts : List Token) → AllPlain ts → next_is ts (codes "if") ≡ f
 next_no_if [] h = refl
 next_no_if (t ∷ ts) h = h.0.no_if
 
-fit_mark : (w : Want) (k : Kind) (rest : List Token) → AllPlain rest → fits w k ≡ true → mark_of false k rest ≡ want_mark w
-fit_mark (Key n) (kind.Key m) rest h f =
-    ap (key_mark false m) (next_no_if rest h) ∙ ap (λ x. key_mark false x false) (sym (eqb-true n m f))
-fit_mark (Punct n) (kind.Punct m) rest h f = ap punctuator_mark (sym (eqb-true n m f))
-fit_mark Name (kind.Name word) rest h f = refl
-fit_mark Main (kind.Name word) rest h f = refl
-fit_mark Number (kind.Number n) rest h f = refl
-fit_mark Format (kind.Text text) rest h f = refl
-fit_mark _ _ rest h f = cc
+fit_role : (w : Want) (k : Kind) (rest : List Token) → AllPlain rest → fits w k ≡ true → role_of false k rest ≡ want_role w
+fit_role (Key n) (kind.Key m) rest h f =
+    ap (key_role false m) (next_no_if rest h) ∙ ap (λ x. key_role false x false) (sym (eqb-true n m f))
+fit_role (Punct n) (kind.Punct m) rest h f = ap punctuator_role (sym (eqb-true n m f))
+fit_role Name (kind.Name word) rest h f = refl
+fit_role Main (kind.Name word) rest h f = refl
+fit_role Number (kind.Number n) rest h f = refl
+fit_role Format (kind.Text text) rest h f = refl
+fit_role _ _ rest h f = cc
 
 behind_moved : (w : Want) (t : Token) (rest : List Token) (n : Nesting) → AllPlain rest → fits w t.kind ≡ true → behind false t rest n ≡ moved w n
 behind_moved w t rest n h f =
-    ap (λ m. changed m (next_is rest (codes "else")) n) (fit_mark w t.kind rest h f) ∙ ap (λ b. changed (want_mark w) b n) (next_plain rest h)
+    ap (λ m. nesting_after m (next_is rest (codes "else")) n) (fit_role w t.kind rest h f) ∙ ap (λ b. nesting_after (want_role w) b n) (next_plain rest h)
 
 -- where the tokens of a pattern stay within the limit, the first that is deeper comes behind them
 shallow_front : (ws : List Want) (front rest : List Token) (n : Nesting) → matches ws front ≡ true → AllPlain (front ++ rest)
@@ -164,7 +160,7 @@ shallow_front (w ∷ ws) (t ∷ front) rest n f h s =
     let shallow = and_parts (not (nat_lt deepest (nest (moved w n)))) (is_shallow ws (moved w n)) s in
     let step : behind false t (front ++ rest) n ≡ moved w n = behind_moved w t (front ++ rest) n h.1 fit.0 in
     ap (λ m. if nat_lt deepest (nest m) then Some t.start else first_deep (is_word t.kind (codes "else")) m (front ++ rest)) step
-    ∙ ap (λ b. if b then Some t.start else first_deep (is_word t.kind (codes "else")) (moved w n) (front ++ rest)) (negated _ shallow.0)
+    ∙ ap (λ b. if b then Some t.start else first_deep (is_word t.kind (codes "else")) (moved w n) (front ++ rest)) (not-true _ shallow.0)
     ∙ ap (λ b. first_deep b (moved w n) (front ++ rest)) h.0.no_else
     ∙ shallow_front ws front rest (moved w n) fit.1 h.1 shallow.1
 

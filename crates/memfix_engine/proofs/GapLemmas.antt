@@ -18,8 +18,8 @@ use Rattle.c_tree.specs.declared.program.VarDef.{VarDef}
 use Rattle.c_tree.specs.Fill.{puts_at}
 use Rattle.memfix_engine.specs.declared.draft.Draft.{Draft}
 use Rattle.memfix_engine.specs.declared.edit.Change.{Change}
-use Rattle.memfix_engine.specs.declared.reading.Reading.{Reading}
-use Rattle.memfix_engine.specs.Reading.{item_piece, gap_of, return_of, result_of, body_of, whole_of}
+use Rattle.memfix_engine.specs.declared.gathered.Gathered.{Gathered}
+use Rattle.memfix_engine.specs.Gathered.{item_piece, gap_of, return_of, result_of, body_of, whole_of}
 use Rattle.memfix_engine.specs.Edit.{gap_changes, piece_changes, block_changes, changes}
 use Rattle.memfix_engine.specs.Own.{put_of, variable_of, variable, freed, gaps_of_block, gaps_of, own_puts}
 use Rattle.memfix_engine.specs.Repair.{return_puts}
@@ -46,7 +46,7 @@ puts_there g (x ∷ xs) =
     ∙ ap (λ (qs : List Put). put_of g x ∷ qs) (puts_there g xs)
 
 -- the return choice of a straight program
-pub return_puts_are : (d : Draft) (r : Reading) → return_puts (whole_of d r) ≡ map (put_of (length r.pieces)) (range_with_len 0 (length r.vars))
+pub return_puts_are : (d : Draft) (r : Gathered) → return_puts (whole_of d r) ≡ map (put_of (length r.pieces)) (range_with_len 0 (length r.vars))
 return_puts_are d r =
     let gap : (length r.pieces + 2) - 2 ≡ length r.pieces = omega arith in
     let count : length (r.vars ++ result_of d ∷ []) - 1 ≡ length r.vars = omega (arith, length-append r.vars (result_of d ∷ [])) in
@@ -61,14 +61,14 @@ gap_before p = (out-Piece p).gap
 pub gap_before_is : (g : Gap) (i : Item) (start end : ℕ) → gap_before (item_piece g i start end) ≡ g
 gap_before_is g i start end = ap (λ (p : Piece-F Item Arm Block Piece). p.gap) (out-roll-Piece (record { gap = g; item = i; start = start; end = end }))
 
-abbrev pub return_piece : Draft → Reading → Piece
+abbrev pub return_piece : Draft → Gathered → Piece
 return_piece d r = item_piece (gap_of r) (return_of d) d.return_at d.return_end
 
 -- all but the last are before an item
-abbrev pub gaps_with : Reading → List Gap
+abbrev pub gaps_with : Gathered → List Gap
 gaps_with r = map gap_before r.pieces ++ gap_of r ∷ gap_with (length r.pieces + 1) [] ∷ []
 
-pub gaps_are : (d : Draft) (r : Reading) → gaps_of (whole_of d r) ≡ gaps_with r
+pub gaps_are : (d : Draft) (r : Gathered) → gaps_of (whole_of d r) ≡ gaps_with r
 gaps_are d r =
     append-nil (gaps_of_block (body_of d r))
     ∙ ap (λ (b : Block-F Item Arm Block Piece). map gap_before b.items ++ b.last_gap ∷ [])
@@ -93,7 +93,7 @@ numbers_from k n l _ m (more {m = o} {i = i} {fs = fs} {ps = ps} start end f s t
     ∙ ap (range_with_len k) (sym two)
 
 -- they are numbered one after another
-pub gaps_numbered : (d : Draft) (r : Reading) → IsSound r → numbers (gaps_of (whole_of d r)) ≡ range_with_len 0 (length r.pieces + 2)
+pub gaps_numbered : (d : Draft) (r : Gathered) → IsSound r → numbers (gaps_of (whole_of d r)) ≡ range_with_len 0 (length r.pieces + 2)
 gaps_numbered d r sound =
     let all : length r.pieces ≡ 0 + length r.pieces = omega arith in
     ap numbers (gaps_are d r)
@@ -162,7 +162,7 @@ kept_from (g ∷ gs) a (suc n) front e h =
     (here, subst (λ (ps : List Put). AreKept ps gs) (append_assoc front (puts_of g) (flat_map puts_of gs)) (kept_from gs (a + 1) n (front ++ puts_of g) rest others))
 
 -- they are what the program's gaps have
-pub own_kept : (d : Draft) (r : Reading) → IsSound r → AreKept (own_puts (whole_of d r)) (gaps_with r)
+pub own_kept : (d : Draft) (r : Gathered) → IsSound r → AreKept (own_puts (whole_of d r)) (gaps_with r)
 own_kept d r sound =
     subst (AreKept (own_puts (whole_of d r))) (gaps_are d r)
     (kept_from (gaps_of (whole_of d r)) 0 (length r.pieces + 2) [] (gaps_numbered d r sound) (λ k h. refl))
@@ -173,7 +173,7 @@ variable_is x at = ap variable_of (expr.outs-Var x at)
 
 -- changes
 
-abbrev pub all_vars : Draft → Reading → List VarDef
+abbrev pub all_vars : Draft → Gathered → List VarDef
 all_vars d r = r.vars ++ result_of d ∷ []
 
 pub piece_changes_are : (ts : List Token) (vars : List VarDef) (puts : List Put) (g : Gap) (i : Item) (start end : ℕ)
@@ -183,7 +183,7 @@ piece_changes_are ts vars puts g i start end =
     (out-roll-Piece (record { gap = g; item = i; start = start; end = end }))
 
 -- before the items, before the return and before the brace
-pub changes_of_whole : (ts : List Token) (d : Draft) (r : Reading) (puts : List Put)
+pub changes_of_whole : (ts : List Token) (d : Draft) (r : Gathered) (puts : List Put)
     → changes ts (whole_of d r) puts
     ≡ flat_map (piece_changes ts (all_vars d r) puts) r.pieces
     ++ (gap_changes ts (all_vars d r) (puts_at puts (length r.pieces)) d.return_at (gap_of r)

@@ -1,3 +1,4 @@
+pub mod ActingLaws
 pub mod Blanks
 pub mod ChangeLemmas
 pub mod CommandLemmas

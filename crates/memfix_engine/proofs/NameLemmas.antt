@@ -1,5 +1,5 @@
 -- Names by number, and a table that finds them.
-use Rattle.std.proofs.Common.{◌≡◌, ℕ, suc, Bool, true, false, ◌||◌, cond, nat_eq, List, [], ◌∷◌, ◌++◌, length, map, Option, Some, None, option_map, if◌then◌else◌, refl, sym, ◌∙◌, ap}
+use Rattle.std.proofs.Common.{◌≡◌, ℕ, suc, Bool, true, false, ◌||◌, cond, nat_eq, List, [], ◌∷◌, ◌++◌, length, map, Option, Some, None, option_map, refl, sym, ◌∙◌, ap}
 use Rattle.std.specs.List.{list_any, position}
 use Rattle.std.specs.Option.{is_some}
 use Rattle.std.specs.Cmp.Lexicographic.{pointwise, slice_cmp, texts_ties, bytes_decides}
@@ -10,11 +10,10 @@ use Rattle.std.specs.Map.{lookup}
 use Rattle.std.specs.BTreeMap.{is_at, insert_entry}
 use Rattle.std.proofs.lemmas.Cmp.{nat_list_eq_equiv, nat_list_cmp_total, tied_itself}
 use Rattle.std.proofs.lemmas.Bool.{true≢false, false≢true}
-use Rattle.std.proofs.lemmas.List.{map-append}
 use Rattle.c_tree.specs.declared.program.VarDef.{VarDef}
 use Rattle.memfix_engine.specs.Names.{number_in, names_of, Finds}
 use Rattle.memfix_engine.specs.Progress.{is_declared}
-use Rattle.memfix_engine.specs.Reading.{var_of}
+use Rattle.memfix_engine.specs.Gathered.{var_of}
 use Rattle.memfix_engine.proofs.VarLemmas.{position-cons, position-snoc_some, position-snoc_none}
 
 -- a test finds the same place among elements and among what they are taken to

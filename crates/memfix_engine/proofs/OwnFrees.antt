@@ -2,7 +2,7 @@
 use Rattle.std.proofs.Common.{◌≡◌, ℕ, ◌+◌, ◌-◌, ◌<◌, ◌≤◌, true, false, ◌==◌, ◌&&◌, List, [], ◌∷◌, ◌++◌, map, length, refl, ap, sym, subst, ◌∙◌, arith, append-nil, append_assoc, length-append, flat_map}
 use Rattle.std.specs.Prelude.{count_by}
 use Rattle.std.specs.List.{list_all}
-use Rattle.std.proofs.lemmas.Bool.{eqb-true}
+use Rattle.std.proofs.lemmas.Bool.{and_parts, eqb-true}
 use Rattle.std.proofs.lemmas.Grind.{flat_map-append}
 use Rattle.std.proofs.lemmas.List.Folds.{flat_map-map}
 use Rattle.c_tree.specs.declared.expr.Expr.{Expr, Expr-F, out-Expr}
@@ -16,12 +16,12 @@ use Rattle.c_tree.specs.declared.program.Free.{Free}
 use Rattle.c_tree.specs.declared.program.Gap.{Gap}
 use Rattle.c_meaning.specs.First.Frees.{is_in, Frees}
 use Rattle.memfix_engine.specs.declared.draft.Draft.{Draft}
-use Rattle.memfix_engine.specs.declared.reading.Reading.{Reading}
-use Rattle.memfix_engine.specs.Own.{variable, variable_of, pointed_of, used, used_in, freed, pieces_of, gaps_of, is_freed_once, is_unused_behind, is_apart, is_ascending, fits}
-use Rattle.memfix_engine.specs.Reading.{item_piece, gap_of, return_of, result_of, whole_of}
+use Rattle.memfix_engine.specs.declared.gathered.Gathered.{Gathered}
+use Rattle.memfix_engine.specs.Own.{variable, variable_of, pointed_of, used, used_in, freed, pieces_of, gaps_of, is_freed_once, is_unused_behind, is_apart, is_ascending, frees_fit}
+use Rattle.memfix_engine.specs.Gathered.{item_piece, gap_of, return_of, result_of, whole_of}
 use Rattle.memfix_engine.proofs.Straight as straight
 use Rattle.memfix_engine.proofs.Straight.{IsStraight, AreFrees, Straight, gap_with, IsSound}
-use Rattle.memfix_engine.proofs.Counts.{times, times_count, times-append, times_none, times_some, times_first, and_first, and_second, behind, times_moved, times-behind, Apart, Apart-none, Apart-behind, Apart-first, Apart-rest, range_each}
+use Rattle.memfix_engine.proofs.Counts.{times, times_count, times-append, times_none, times_some, times_first, behind, times_moved, times-behind, Apart, Apart-none, Apart-behind, Apart-first, Apart-rest, range_each}
 use Rattle.memfix_engine.proofs.StraightCourses.{UsesNone, FreesAlong, ends, goes}
 use Rattle.memfix_engine.proofs.GapLemmas.{return_piece}
 
@@ -101,14 +101,14 @@ frees_along {k} {n} {l} {fs = last} rest gone (straight.more {m = m} {i = i} {fs
     let counted : Once l gone (variables fs ++ (flat_map freed_before ps ++ variables last)) =
     subst (Once l gone) (append_assoc (variables fs) (flat_map freed_before ps) (variables last))
     (subst (λ (xs : List ℕ). Once l gone ((xs ++ flat_map freed_before ps) ++ variables last)) is once) in
-    let free : is_apart (variables fs) all ≡ true = subst (λ (xs : List ℕ). is_apart xs all ≡ true) is (and_first _ _ unused) in
+    let free : is_apart (variables fs) all ≡ true = subst (λ (xs : List ℕ). is_apart xs all ≡ true) is (and_parts _ _ unused).0 in
     let at = used_straight s g start end (behind (variables fs) gone) (flat_map used (ps ++ rest)) (Apart-behind (variables fs) gone all free apart) in
     let order : n ≤ l = Straight-order (straight.more {k = k} start end here s later) in
     goes start end (frees_from gone here (once_part l n gone (variables fs) (flat_map freed_before ps ++ variables last) order counted)) s at.0
-    (frees_along rest (behind (variables fs) gone) later frees (and_second _ _ unused) at.1 (once_step l gone (variables fs) (flat_map freed_before ps ++ variables last) counted))
+    (frees_along rest (behind (variables fs) gone) later frees (and_parts _ _ unused).1 at.1 (once_step l gone (variables fs) (flat_map freed_before ps ++ variables last) counted))
 
 -- the pieces of a program, and the variables that it frees
-program_pieces : (d : Draft) (r : Reading) → pieces_of (whole_of d r) ≡ r.pieces ++ return_piece d r ∷ []
+program_pieces : (d : Draft) (r : Gathered) → pieces_of (whole_of d r) ≡ r.pieces ++ return_piece d r ∷ []
 program_pieces d r = ap (λ (b : Block-F Item Arm Block Piece). b.items ++ []) (out-roll-Block _) ∙ append-nil (r.pieces ++ return_piece d r ∷ [])
 
 gaps_freed : (ps : List Piece) (last : Gap) → freed last ≡ [] → flat_map freed ((map (λ p. (out-Piece p).gap) ps ++ last ∷ []) ++ []) ≡ flat_map freed_before ps
@@ -120,14 +120,14 @@ gaps_freed ps last h =
     ∙ append-nil (flat_map freed gaps)
     ∙ flat_map-map freed (λ (p : Piece). (out-Piece p).gap) ps
 
-program_freed : (d : Draft) (r : Reading) → flat_map freed (gaps_of (whole_of d r)) ≡ flat_map freed_before r.pieces ++ variables r.frees
+program_freed : (d : Draft) (r : Gathered) → flat_map freed (gaps_of (whole_of d r)) ≡ flat_map freed_before r.pieces ++ variables r.frees
 program_freed d r =
     ap (λ (b : Block-F Item Arm Block Piece). flat_map freed ((map (λ (p : Piece). (out-Piece p).gap) b.items ++ b.last_gap ∷ []) ++ [])) (out-roll-Block _)
     ∙ gaps_freed (r.pieces ++ return_piece d r ∷ []) (record { number = length r.pieces + 1; frees = [] }) refl
     ∙ flat_map-append freed_before r.pieces (return_piece d r ∷ [])
     ∙ ap (λ (xs : List ℕ). flat_map freed_before r.pieces ++ xs) (append-nil (freed_before (return_piece d r)) ∙ freed_piece (gap_of r) (return_of d) d.return_at d.return_end)
 
-once_of : (d : Draft) (r : Reading) → is_freed_once (whole_of d r) ≡ true → Once (length r.vars) [] (flat_map freed_before r.pieces ++ variables r.frees)
+once_of : (d : Draft) (r : Gathered) → is_freed_once (whole_of d r) ≡ true → Once (length r.vars) [] (flat_map freed_before r.pieces ++ variables r.frees)
 once_of d r h x below =
     let many : length (r.vars ++ result_of d ∷ []) ≡ length r.vars + 1 = length-append r.vars (result_of d ∷ []) in
     let one : (count_by (λ y. y == x) (flat_map freed (gaps_of (whole_of d r))) == 1) ≡ true =
@@ -137,11 +137,11 @@ once_of d r h x below =
     omega arith
 
 -- the program's own frees fit
-pub own_along : (d : Draft) (r : Reading) → IsSound r → fits (whole_of d r) ≡ true → FreesAlong (length r.vars) r.frees 0 0 [] r.pieces
+pub own_along : (d : Draft) (r : Gathered) → IsSound r → frees_fit (whole_of d r) ≡ true → FreesAlong (length r.vars) r.frees 0 0 [] r.pieces
 own_along d r sound h =
     let p = whole_of d r in
-    let first : (is_freed_once p && is_unused_behind (pieces_of p)) ≡ true = and_first _ (list_all (λ g. is_ascending (freed g)) (gaps_of p)) h in
+    let first : (is_freed_once p && is_unused_behind (pieces_of p)) ≡ true = (and_parts _ (list_all (λ g. is_ascending (freed g)) (gaps_of p)) h).0 in
     frees_along (return_piece d r ∷ []) [] sound.pieces sound.frees
-    (ap is_unused_behind (sym (program_pieces d r)) ∙ and_second (is_freed_once p) (is_unused_behind (pieces_of p)) first)
+    (ap is_unused_behind (sym (program_pieces d r)) ∙ (and_parts (is_freed_once p) (is_unused_behind (pieces_of p)) first).1)
     (Apart-none (flat_map used (r.pieces ++ return_piece d r ∷ [])))
-    (once_of d r (and_first (is_freed_once p) (is_unused_behind (pieces_of p)) first))
+    (once_of d r (and_parts (is_freed_once p) (is_unused_behind (pieces_of p)) first).0)

@@ -3,7 +3,7 @@ use Rattle.std.proofs.Common.{◌≡◌, ℕ, ◌+◌, ◌<◌, Bool, true, fals
 use Rattle.std.specs.Prelude.{slice_get}
 use Rattle.std.specs.Cmp.Lexicographic.{pointwise}
 use Rattle.std.proofs.Math.Bool.{and-false}
-use Rattle.std.proofs.lemmas.Bool.{eq-eqb}
+use Rattle.std.proofs.lemmas.Bool.{and_parts, eq-eqb}
 use Rattle.c_lexer.specs.declared.token.Token.{Token}
 use Rattle.c_lexer.specs.declared.token.Kind.{Kind}
 use Rattle.c_lexer.specs.declared.token.Kind.TheVariants as kind
@@ -18,7 +18,7 @@ use Rattle.memfix_engine.specs.declared.prefix.Progress.{Progress}
 use Rattle.memfix_engine.specs.Form.{fits, wants, tail_pattern, candidate, is_main, none}
 use Rattle.memfix_engine.specs.Progress.{is_declared, wanted, declares, admits, names_behind, may_begin, begun_by, begun_behind, advanced, advance, nothing_begun}
 use Rattle.memfix_engine.proofs.VarLemmas.{pointwise_same}
-use Rattle.memfix_engine.proofs.ProgressParts.{and_left, and_both, if_some, fill, is_plain}
+use Rattle.memfix_engine.proofs.ProgressParts.{and_both, if_some, fill, is_plain}
 use Rattle.memfix_engine.proofs.ProgressLemmas.{Completes, CompletesIn, GoesOn, drop_some}
 
 -- the first of the names is not `main`
@@ -65,7 +65,7 @@ first_more (n ∷ names) word h m = h
 
 name_ready : (new : Bool) (names : List (List ℕ)) (ws : List Want) (k : Kind) → Ready new names (Name ∷ ws) → admits new names Name k ≡ true
     → Ready new (names_behind Name new k names) ws
-name_ready true names ws (kind.Name word) r h = record { first = first_more names word r.first (and_left _ _ h); has = refl }
+name_ready true names ws (kind.Name word) r h = record { first = first_more names word r.first (and_parts _ _ h).0; has = refl }
 name_ready false [] ws (kind.Name word) r h = let e : false ≡ true = r.has in absurd cc
 name_ready false (n ∷ names) ws (kind.Name word) r h = record { first = r.first; has = refl }
 name_ready new names ws _ r h = cc

@@ -1,6 +1,7 @@
 -- Tokens complete the first form from where others have come, and one token leads on exactly so.
 use Rattle.std.proofs.Common.{◌≡◌, ℕ, zero, suc, ◌+◌, Bool, true, false, List, [], ◌∷◌, ◌++◌, drop, Option, Some, None, refl, sym, ◌∙◌, ap, subst, arith, append_assoc}
 use Rattle.std.specs.Prelude.{option_and_then, option_map, slice_get}
+use Rattle.std.proofs.lemmas.Bool.{and_parts}
 use Rattle.c_lexer.specs.declared.token.Token.{Token}
 use Rattle.c_lexer.specs.declared.token.Kind.{Kind}
 use Rattle.c_tree.specs.declared.program.Program.{Program}
@@ -13,14 +14,14 @@ use Rattle.memfix_engine.specs.declared.draft.Step.{Step}
 use Rattle.memfix_engine.specs.declared.prefix.Part.{Part}
 use Rattle.memfix_engine.specs.declared.prefix.Part.TheVariants as part
 use Rattle.memfix_engine.specs.declared.prefix.Progress.{Progress}
-use Rattle.memfix_engine.specs.declared.reading.Reading.{Reading}
-use Rattle.memfix_engine.specs.Form.{fits, matches, wants, head_pattern, tail_pattern, candidate, deed_of, step_of, draft_of, Spells, Steps, none, more}
-use Rattle.memfix_engine.specs.Reading.{nothing_read, read_from, whole_of}
+use Rattle.memfix_engine.specs.declared.gathered.Gathered.{Gathered}
+use Rattle.memfix_engine.specs.Form.{fits, matches, wants, head_pattern, tail_pattern, candidate, deed_of, step_of, draft_of, IsStepOf, Steps, none, more}
+use Rattle.memfix_engine.specs.Gathered.{nothing_read, read_from, whole_of}
 use Rattle.memfix_engine.specs.Reads.{IsFirst}
 use Rattle.memfix_engine.specs.Progress.{wanted, declares, admits, names_behind, may_begin, begun_by, begun, begun_behind, advanced, advance, nothing_begun}
-use Rattle.memfix_engine.proofs.FormLemmas.{called_for, for_none, Spells-step_of}
+use Rattle.memfix_engine.proofs.FormLemmas.{called_for, for_none, IsStepOf-step_of}
 use Rattle.memfix_engine.proofs.DeclaredNames.{read_names, names_step, names_from, Read, read_named, named_read}
-use Rattle.memfix_engine.proofs.ProgressParts.{and_left, and_right, if_some, fill, fill_matches, plain_fill, step_fill, begun_matches}
+use Rattle.memfix_engine.proofs.ProgressParts.{if_some, fill, fill_matches, plain_fill, step_fill, begun_matches}
 
 -- the tokens fill what is left of a part, and steps and the return follow
 pub record GoesOn (new : Bool) (names : List (List ℕ)) (ws : List Want) (us : List Token) : Type 0 where
@@ -191,7 +192,7 @@ never_empty pattern.Show h = cc
 never_empty pattern.Free h = cc
 never_empty pattern.Empty h = cc
 
-step_on : (names last : List (List ℕ)) (t : Token) (us : List Token) (s : Step) (ss : List Step) (front rest tail : List Token) (k : Spells s front)
+step_on : (names last : List (List ℕ)) (t : Token) (us : List Token) (s : Step) (ss : List Step) (front rest tail : List Token) (k : IsStepOf s front)
     → Steps ss rest → t ∷ us ≡ (front ++ rest) ++ tail → names_from names (s ∷ ss) ≡ Some last → matches tail_pattern tail ≡ true → Next (begun names t.kind) us
 step_on names last t us s ss [] rest tail k steps whole read ends = absurd (never_empty k.pattern k.matched)
 step_on names last t us s ss (x ∷ front) rest tail k steps whole read ends =
@@ -223,8 +224,8 @@ step_on names last t us s ss (x ∷ front) rest tail k steps whole read ends =
 return_on : (names : List (List ℕ)) (t : Token) (us : List Token) → matches tail_pattern (t ∷ us) ≡ true → Next (begun names t.kind) us
 return_on names t us h = record {
   next = record { names = names; part = part.Tail; at = 1 };
-  is = begun_return names t.kind (for_none t.kind (and_left _ _ h)) (and_left _ _ h);
-  completes = record { last = names; filled = plain_fill false names (drop 1 tail_pattern) us refl (and_right _ _ h) };
+  is = begun_return names t.kind (for_none t.kind (and_parts _ _ h).0) (and_parts _ _ h).0;
+  completes = record { last = names; filled = plain_fill false names (drop 1 tail_pattern) us refl (and_parts _ _ h).1 };
 }
 
 steps_on : (names last : List (List ℕ)) (t : Token) (us : List Token) (ss : List Step) (body tail : List Token) → Steps ss body → t ∷ us ≡ body ++ tail
@@ -259,7 +260,7 @@ step_back names new t us p c g =
       steps = step_of p (t ∷ g.front) ∷ g.steps;
       whole = ap (λ xs. t ∷ xs) (g.whole ∙ sym (append_assoc g.front g.body g.tail));
       filled = refl;
-      spelled = more (step_of p (t ∷ g.front)) g.steps (t ∷ g.front) g.body (Spells-step_of (t ∷ g.front) p matched) g.spelled;
+      spelled = more (step_of p (t ∷ g.front)) g.steps (t ∷ g.front) g.body (IsStepOf-step_of (t ∷ g.front) p matched) g.spelled;
       read = ap (option_and_then (λ q. names_from q g.steps)) (step_fill p names t g.front matched ∙ g.filled) ∙ g.read;
       ends = g.ends;
     }
@@ -342,7 +343,7 @@ completed_first ts g =
     let same : g.between ≡ [] = cc in
     let r : Read g.steps = read_named g.steps g.last (ap (λ ns. names_from ns g.steps) (sym same) ∙ g.read) in
     record {
-      program = whole_of (draft_of g.steps g.front g.tail) r.reading;
+      program = whole_of (draft_of g.steps g.front g.tail) r.gathered;
       is = record {
         draft = draft_of g.steps g.front g.tail;
         form = record {
@@ -359,9 +360,9 @@ completed_first ts g =
       };
     }
 
-whole_read : (ss : List Step) (f : Reading → Program) (o : Option Reading) (p : Program) → read_from nothing_read ss ≡ o → option_map f o ≡ Some p → Read ss
+whole_read : (ss : List Step) (f : Gathered → Program) (o : Option Gathered) (p : Program) → read_from nothing_read ss ≡ o → option_map f o ≡ Some p → Read ss
 whole_read ss f None p e h = absurd cc
-whole_read ss f (Some r) p e h = record { reading = r; is = e }
+whole_read ss f (Some r) p e h = record { gathered = r; is = e }
 
 pub first_completed : (ts : List Token) (p : Program) → IsFirst ts p → Completes nothing_begun ts
 first_completed ts p h =
@@ -371,11 +372,11 @@ first_completed ts p h =
       body = h.form.body;
       tail = h.form.tail;
       between = [];
-      last = read_names r.reading;
+      last = read_names r.gathered;
       steps = h.draft.steps;
       whole = h.form.whole;
       filled = plain_fill false [] head_pattern h.form.head refl h.form.begins;
       spelled = h.form.steps;
-      read = named_read h.draft.steps r.reading r.is;
+      read = named_read h.draft.steps r.gathered r.is;
       ends = h.form.ends;
     }

@@ -1,7 +1,7 @@
 -- Tokens that fill the parts of the first form.
 use Rattle.std.proofs.Common.{◌≡◌, ◌⊎◌, inl, inr, ℕ, Bool, true, false, not, ◌==◌, ◌&&◌, List, [], ◌∷◌, ◌++◌, length, take, drop, Option, Some, None, refl, sym, ◌∙◌, ap, subst}
 use Rattle.std.specs.Prelude.{if◌then◌else◌}
-use Rattle.std.proofs.lemmas.Bool.{not-true, eqb-true, eq-eqb}
+use Rattle.std.proofs.lemmas.Bool.{and_parts, not-true, eqb-true, eq-eqb}
 use Rattle.c_lexer.specs.declared.token.Token.{Token}
 use Rattle.c_lexer.specs.declared.token.Kind.{Kind}
 use Rattle.c_lexer.specs.declared.token.Kind.TheVariants as kind
@@ -16,14 +16,6 @@ use Rattle.memfix_engine.specs.Names.{number_in}
 use Rattle.memfix_engine.specs.Progress.{is_declared, declares, admits, names_behind}
 use Rattle.memfix_engine.proofs.DeclaredNames.{named, names_step}
 use Rattle.memfix_engine.proofs.NameLemmas.{undeclared_number}
-
-pub and_left : (a b : Bool) → (a && b) ≡ true → a ≡ true
-and_left true b h = refl
-and_left false b h = cc
-
-pub and_right : (a b : Bool) → (a && b) ≡ true → b ≡ true
-and_right true b h = h
-and_right false b h = cc
 
 pub and_both : (a b : Bool) → a ≡ true → b ≡ true → (a && b) ≡ true
 and_both a b p q = rw (p, q) refl
@@ -40,7 +32,7 @@ fill new names (w ∷ ws) [] = None
 fill new names (w ∷ ws) (t ∷ ts) = if admits new names w t.kind then fill new (names_behind w new t.kind names) ws ts else None
 
 pub admits_fits : (new : Bool) (names : List (List ℕ)) (w : Want) (k : Kind) → admits new names w k ≡ true → fits w k ≡ true
-admits_fits new names Name k h = and_left _ _ h
+admits_fits new names Name k h = (and_parts _ _ h).0
 admits_fits new names (Key n) k h = h
 admits_fits new names (Punct n) k h = h
 admits_fits new names Main k h = h
@@ -49,7 +41,7 @@ admits_fits new names Format k h = h
 
 -- a new name that is admitted has no number yet
 pub admits_unnumbered : (names : List (List ℕ)) (word : List ℕ) → admits true names Name (kind.Name word) ≡ true → number_in names word ≡ None
-admits_unnumbered names word h = undeclared_number names word (not-true (is_declared names word) (and_right _ _ h))
+admits_unnumbered names word h = undeclared_number names word (not-true (is_declared names word) (and_parts _ _ h).1)
 
 pub fill_matches : (new : Bool) (names last : List (List ℕ)) (ws : List Want) (ts : List Token) → fill new names ws ts ≡ Some last → matches ws ts ≡ true
 fill_matches new names last [] [] h = refl
@@ -89,7 +81,7 @@ plain_fill new names [] [] p h = refl
 plain_fill new names [] (t ∷ ts) p h = cc
 plain_fill new names (w ∷ ws) [] p h = cc
 plain_fill new names (w ∷ ws) (t ∷ ts) p h =
-    plain_step new names w ws t ts p (and_left _ _ h) ∙ plain_fill new names ws ts (plain_behind w ws p) (and_right _ _ h)
+    plain_step new names w ws t ts p (and_parts _ _ h).0 ∙ plain_fill new names ws ts (plain_behind w ws p) (and_parts _ _ h).1
 
 chosen_new : {A : Type 0} (m d : Bool) (o : Option A) → m ≡ true → (if m && not d then o else None) ≡ (if d then None else o)
 chosen_new m true o h = rw h refl
@@ -102,11 +94,11 @@ name_first : (new : Bool) (names : List (List ℕ)) (ws : List Want) (k : Kind) 
     → (fits Name k && matches ws ts) ≡ true
     → (if admits new names Name k then fill new (names_behind Name new k names) ws ts else None) ≡ named new names (word_of k)
 name_first true names ws (kind.Name word) ts p h =
-    ap (λ o. if not (is_main word) && not (is_declared names word) then o else None) (plain_fill true (names ++ word ∷ []) ws ts p (and_right _ _ h))
-    ∙ chosen_new (not (is_main word)) (is_declared names word) (Some (names ++ word ∷ [])) (and_left _ _ h)
+    ap (λ o. if not (is_main word) && not (is_declared names word) then o else None) (plain_fill true (names ++ word ∷ []) ws ts p (and_parts _ _ h).1)
+    ∙ chosen_new (not (is_main word)) (is_declared names word) (Some (names ++ word ∷ [])) (and_parts _ _ h).0
 name_first false names ws (kind.Name word) ts p h =
-    ap (λ o. if not (is_main word) && is_declared names word then o else None) (plain_fill false names ws ts p (and_right _ _ h))
-    ∙ chosen_old (not (is_main word)) (is_declared names word) (Some names) (and_left _ _ h)
+    ap (λ o. if not (is_main word) && is_declared names word then o else None) (plain_fill false names ws ts p (and_parts _ _ h).1)
+    ∙ chosen_old (not (is_main word)) (is_declared names word) (Some names) (and_parts _ _ h).0
 name_first new names ws _ ts p h = cc
 
 -- with one name a match and that name are all
@@ -116,7 +108,7 @@ named_fill new names [] back [] p q h = cc
 named_fill new names [] back (t ∷ ts) p q h = name_first new names back t.kind ts q h
 named_fill new names (w ∷ front) back [] p q h = cc
 named_fill new names (w ∷ front) back (t ∷ ts) p q h =
-    named_step new names w front back t ts p (and_left _ _ h) ∙ named_fill new names front back ts (plain_behind w front p) q (and_right _ _ h)
+    named_step new names w front back t ts p (and_parts _ _ h).0 ∙ named_fill new names front back ts (plain_behind w front p) q (and_parts _ _ h).1
   where
     named_step : (new : Bool) (names : List (List ℕ)) (w : Want) (front back : List Want) (t : Token) (ts : List Token) → is_plain (w ∷ front) ≡ true
         → fits w t.kind ≡ true → fill new names (w ∷ (front ++ Name ∷ back)) (t ∷ ts) ≡ fill new names (front ++ Name ∷ back) ts
@@ -130,11 +122,11 @@ named_fill new names (w ∷ front) back (t ∷ ts) p q h =
 -- the tokens of a step give its names
 pub step_fill : (p : Pattern) (names : List (List ℕ)) (t : Token) (ts : List Token) → matches (wants p) (t ∷ ts) ≡ true
     → names_step names (deed_of p (t ∷ ts)) ≡ fill (declares (part.Step p)) names (drop 1 (wants p)) ts
-step_fill pattern.Make names t ts h = sym (named_fill true names (Punct PUNCT_STAR ∷ []) (drop 3 (wants pattern.Make)) ts refl refl (and_right _ _ h))
-step_fill pattern.Store names t ts h = sym (named_fill false names [] (drop 2 (wants pattern.Store)) ts refl refl (and_right _ _ h))
-step_fill pattern.Show names t ts h = sym (named_fill false names (take 4 (drop 1 (wants pattern.Show))) (drop 6 (wants pattern.Show)) ts refl refl (and_right _ _ h))
-step_fill pattern.Free names t ts h = sym (named_fill false names (Punct PUNCT_OPEN ∷ []) (drop 3 (wants pattern.Free)) ts refl refl (and_right _ _ h))
-step_fill pattern.Empty names t ts h = sym (plain_fill false names [] ts refl (and_right _ _ h))
+step_fill pattern.Make names t ts h = sym (named_fill true names (Punct PUNCT_STAR ∷ []) (drop 3 (wants pattern.Make)) ts refl refl (and_parts _ _ h).1)
+step_fill pattern.Store names t ts h = sym (named_fill false names [] (drop 2 (wants pattern.Store)) ts refl refl (and_parts _ _ h).1)
+step_fill pattern.Show names t ts h = sym (named_fill false names (take 4 (drop 1 (wants pattern.Show))) (drop 6 (wants pattern.Show)) ts refl refl (and_parts _ _ h).1)
+step_fill pattern.Free names t ts h = sym (named_fill false names (Punct PUNCT_OPEN ∷ []) (drop 3 (wants pattern.Free)) ts refl refl (and_parts _ _ h).1)
+step_fill pattern.Empty names t ts h = sym (plain_fill false names [] ts refl (and_parts _ _ h).1)
 
 by_key : (a b c : Bool) (p : Pattern) → (if a then Some pattern.Make else (if b then Some pattern.Show else (if c then Some pattern.Free else None))) ≡ Some p
     → ((p ≡ pattern.Make) × (a ≡ true)) ⊎ (((p ≡ pattern.Show) × (b ≡ true)) ⊎ ((p ≡ pattern.Free) × (c ≡ true)))

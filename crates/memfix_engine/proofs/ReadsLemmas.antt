@@ -10,26 +10,20 @@ use Rattle.c_lexer.specs.Outcome.{AreTokens, Answers, answer_for, unless_refused
 use Rattle.c_lexer.proofs.Unique.{reading_unique}
 use Rattle.c_tree.specs.declared.program.Program.{Program}
 use Rattle.memfix_engine.specs.declared.draft.Draft.{Draft}
-use Rattle.memfix_engine.specs.declared.source.SourceText.{SourceText}
 use Rattle.memfix_engine.specs.declared.refusal.SourceRefusal.{SourceRefusal}
 use Rattle.memfix_engine.specs.declared.refusal.SourceRefusal.TheVariants as source
 use Rattle.memfix_engine.specs.declared.refusal.RepairRefusal.{RepairRefusal}
 use Rattle.memfix_engine.specs.declared.refusal.RepairRefusal.TheVariants as repair
 use Rattle.memfix_engine.specs.Form.{IsForm}
-use Rattle.memfix_engine.specs.Reading.{program_of}
+use Rattle.memfix_engine.specs.Gathered.{program_of}
 use Rattle.memfix_engine.specs.Reads.{Reads, IsFirst}
 use Rattle.memfix_engine.specs.Prefix.{IsPlace}
 use Rattle.memfix_engine.specs.Refusal.{IsNotBuilt, RefusesSource, RefusesRepair, source_limit}
 use Rattle.memfix_engine.specs.Outcome.{status_of_lex, status_of_source}
-use Rattle.memfix_engine.specs.Source.{IsSource}
 use Rattle.memfix_engine.proofs.FormLemmas.{IsForm-unique}
 use Rattle.memfix_engine.proofs.FormTokens.{form_not_refused, form_not_deep}
 use Rattle.memfix_engine.proofs.PlaceLemmas.{place_not_first}
 use Rattle.memfix_engine.proofs.TextLemmas.{tokens_unique}
-
--- a read text has a program
-pub source_reads : (b : List ℕ) (s : SourceText) → IsSource b s → Reads b s.program
-source_reads b s h = record { tokens = s.tokens.list; scanned = record { last_comment = s.tokens.last_comment; reads = h.are.reads }; first = h.first }
 
 -- tokens without a draft, or with a draft without a program, are not of the first form
 

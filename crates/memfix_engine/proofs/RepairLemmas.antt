@@ -16,20 +16,20 @@ use Rattle.c_meaning.proofs.FreesApart.{same_repair}
 use Rattle.memfix_engine.specs.declared.draft.Step.{Step}
 use Rattle.memfix_engine.specs.declared.draft.Draft.{Draft}
 use Rattle.memfix_engine.specs.declared.edit.Change.{Change}
-use Rattle.memfix_engine.specs.declared.reading.Reading.{Reading}
+use Rattle.memfix_engine.specs.declared.gathered.Gathered.{Gathered}
 use Rattle.memfix_engine.proofs.FreeText.{IsName}
 use Rattle.memfix_engine.specs.Form.{IsForm, is_main}
-use Rattle.memfix_engine.specs.Reading.{read_from, nothing_read, whole_of}
+use Rattle.memfix_engine.specs.Gathered.{read_from, nothing_read, whole_of}
 use Rattle.memfix_engine.specs.Reads.{IsFirst, Reads}
 use Rattle.memfix_engine.specs.declared.source.SourceText.{SourceText}
 use Rattle.memfix_engine.specs.Source.{IsSource}
-use Rattle.memfix_engine.specs.Edit.{changed, edited, AreInOrder}
-use Rattle.memfix_engine.specs.Own.{fits, own_puts, is_ascending, are_numbered}
+use Rattle.memfix_engine.specs.Edit.{with_changes, edited, AreInOrder}
+use Rattle.memfix_engine.specs.Own.{frees_fit, own_puts, is_ascending, are_numbered}
 use Rattle.memfix_engine.specs.Repair.{return_puts, choice_of, Repairs}
 use Rattle.memfix_engine.proofs.Straight.{IsSound}
 use Rattle.memfix_engine.proofs.Emptied.{cleared, insertion, marked_blanks}
 use Rattle.memfix_engine.proofs.TextLemmas.{AllNamed, tokens_named, tokens_ascend}
-use Rattle.memfix_engine.proofs.EditTokens.{Ascend_in_order}
+use Rattle.memfix_engine.proofs.EditTokens.{ascends_in_order}
 use Rattle.memfix_engine.proofs.GapLemmas.{gaps_numbered}
 use Rattle.memfix_engine.proofs.SoundLemmas.{Steps-named, read_sound}
 use Rattle.memfix_engine.proofs.StraightRuns.{safe_clear, safe_own}
@@ -47,17 +47,17 @@ record ReadsFilled (w : List ℕ) (p : Program) (puts : List Put) : Type 0 where
 
 -- the parts of a program of the first form
 
-record HasReading (d : Draft) (o : Option Reading) (p : Program) : Type 0 where
-  reading : Reading
-  found : o ≡ Some reading
-  is : p ≡ whole_of d reading
+record HasGathered (d : Draft) (o : Option Gathered) (p : Program) : Type 0 where
+  gathered : Gathered
+  found : o ≡ Some gathered
+  is : p ≡ whole_of d gathered
 
 some_whole : (p q : Program) → Some q ≡ Some p → p ≡ q
 some_whole p q h = cc
 
-program_reading : (d : Draft) (p : Program) (o : Option Reading) → option_map (whole_of d) o ≡ Some p → HasReading d o p
-program_reading d p None h = absurd cc
-program_reading d p (Some r) h = record { reading = r; found = refl; is = some_whole p (whole_of d r) h }
+program_gathered : (d : Draft) (p : Program) (o : Option Gathered) → option_map (whole_of d) o ≡ Some p → HasGathered d o p
+program_gathered d p None h = absurd cc
+program_gathered d p (Some r) h = record { gathered = r; found = refl; is = some_whole p (whole_of d r) h }
 
 named_behind : (xs ys : List Token) → AllNamed (xs ++ ys) → AllNamed ys
 named_behind [] ys h = h
@@ -67,7 +67,7 @@ named_before : (xs ys : List Token) → AllNamed (xs ++ ys) → AllNamed xs
 named_before [] ys h = tt
 named_before (x ∷ xs) ys h = (h.0, named_before xs ys h.1)
 
-sound_of : (b : List ℕ) (ts : List Token) (d : Draft) (r : Reading) → HasTokens b ts → (form : IsForm ts d) → read_from nothing_read d.steps ≡ Some r → IsSound r
+sound_of : (b : List ℕ) (ts : List Token) (d : Draft) (r : Gathered) → HasTokens b ts → (form : IsForm ts d) → read_from nothing_read d.steps ≡ Some r → IsSound r
 sound_of b ts d r scanned form read =
     let all : AllNamed (form.head ++ (form.body ++ form.tail)) = subst AllNamed form.whole (tokens_named b ts scanned) in
     let body : AllNamed form.body = named_before form.body form.tail (named_behind form.head (form.body ++ form.tail) all) in
@@ -75,7 +75,7 @@ sound_of b ts d r scanned form read =
 
 -- the program's own frees
 
-own_filled : (b : List ℕ) (ts : List Token) (d : Draft) (r : Reading) → HasTokens b ts → IsForm ts d → IsSound r → read_from nothing_read d.steps ≡ Some r → fits (whole_of d r) ≡ true
+own_filled : (b : List ℕ) (ts : List Token) (d : Draft) (r : Gathered) → HasTokens b ts → IsForm ts d → IsSound r → read_from nothing_read d.steps ≡ Some r → frees_fit (whole_of d r) ≡ true
     → ReadsFilled b (whole_of d r) (own_puts (whole_of d r))
 own_filled b ts d r scanned form sound read fitting =
     let safe = safe_own d r sound fitting in
@@ -88,8 +88,8 @@ own_filled b ts d r scanned form sound read fitting =
       same = same_repair (whole_of d r) (whole_of d r) (record { puts = own_puts (whole_of d r) }) alike safe;
     }
 
-own_text : (b : List ℕ) (ts : List Token) (d : Draft) (r : Reading) → IsSound r → edited b ts (whole_of d r) (record { puts = own_puts (whole_of d r) }) ≡ b
-own_text b ts d r sound = ap (λ (cs : List Change). changed 0 cs b) (unchanged_own ts d r sound)
+own_text : (b : List ℕ) (ts : List Token) (d : Draft) (r : Gathered) → IsSound r → edited b ts (whole_of d r) (record { puts = own_puts (whole_of d r) }) ≡ b
+own_text b ts d r sound = ap (λ (cs : List Change). with_changes 0 cs b) (unchanged_own ts d r sound)
 
 -- all frees before the return
 
@@ -101,23 +101,23 @@ are_other : (ws : List VarDef) → ((k : ℕ) (w : VarDef) → slice_get ws k �
 are_other [] h = tt
 are_other (w ∷ ws) h = (h 0 w refl, are_other ws (λ k v g. h (suc k) v g))
 
-all_names : (r : Reading) (names : List (List ℕ)) → IsSound r → (names ≡ []) ⊎ (names ≡ map (λ v. v.name) r.vars) → All IsName names
+all_names : (r : Gathered) (names : List (List ℕ)) → IsSound r → (names ≡ []) ⊎ (names ≡ map (λ v. v.name) r.vars) → All IsName names
 all_names r names sound (inl e) = subst (λ xs. All IsName xs) (sym e) (All-from_recursion IsName [] tt)
 all_names r names sound (inr e) = subst (λ xs. All IsName xs) (sym e) (All-from_recursion IsName (map (λ v. v.name) r.vars) (AreNames r.vars sound.named))
 
-all_other : (r : Reading) (names : List (List ℕ)) → IsSound r → (names ≡ []) ⊎ (names ≡ map (λ v. v.name) r.vars) → All (λ x. is_main x ≡ false) names
+all_other : (r : Gathered) (names : List (List ℕ)) → IsSound r → (names ≡ []) ⊎ (names ≡ map (λ v. v.name) r.vars) → All (λ x. is_main x ≡ false) names
 all_other r names sound (inl e) = subst (λ xs. All (λ x. is_main x ≡ false) xs) (sym e) (All-from_recursion (λ x. is_main x ≡ false) [] tt)
 all_other r names sound (inr e) = subst (λ xs. All (λ x. is_main x ≡ false) xs) (sym e) (All-from_recursion (λ x. is_main x ≡ false) (map (λ v. v.name) r.vars) (are_other r.vars sound.other))
 
-return_filled : (b : List ℕ) (ts : List Token) (d : Draft) (r : Reading) → HasTokens b ts → IsForm ts d → IsSound r → read_from nothing_read d.steps ≡ Some r
+return_filled : (b : List ℕ) (ts : List Token) (d : Draft) (r : Gathered) → HasTokens b ts → IsForm ts d → IsSound r → read_from nothing_read d.steps ≡ Some r
     → ReadsFilled (edited b ts (whole_of d r) (record { puts = return_puts (whole_of d r) })) (whole_of d r) (return_puts (whole_of d r))
 return_filled b ts d r scanned form sound read =
     let m = marked ts d r sound read in
     let e = edited_form b ts d m.marks m.names scanned form m.valid (all_names r m.names sound m.named) (all_other r m.names sound m.named) in
     let f = m.frees e.steps e.emptied in
-    let q : Reading = cleared r f.frees in
-    let text : edited b ts (whole_of d r) (record { puts = return_puts (whole_of d r) }) ≡ changed 0 (marked_blanks ts m.marks d.steps ++ map (insertion d.return_at) m.names) b =
-    ap (λ (cs : List Change). changed 0 cs b) m.changes_are in
+    let q : Gathered = cleared r f.frees in
+    let text : edited b ts (whole_of d r) (record { puts = return_puts (whole_of d r) }) ≡ with_changes 0 (marked_blanks ts m.marks d.steps ++ map (insertion d.return_at) m.names) b =
+    ap (λ (cs : List Change). with_changes 0 cs b) m.changes_are in
     let program : option_map (whole_of e.draft) (read_from nothing_read e.draft.steps) ≡ Some (whole_of e.draft q) =
     ap (λ (ss : List Step). option_map (whole_of e.draft) (read_from nothing_read ss)) e.steps_are ∙ ap (option_map (whole_of e.draft)) f.read in
     let alike = alike_return d e.draft r f.frees sound e.number f.each in
@@ -136,14 +136,14 @@ return_filled b ts d r scanned form sound read =
 
 -- the choice, by whether the program's own frees fit
 
-chosen : (b : List ℕ) (ts : List Token) (d : Draft) (r : Reading) → HasTokens b ts → IsForm ts d → IsSound r → read_from nothing_read d.steps ≡ Some r → (own : Bool) → fits (whole_of d r) ≡ own
+chosen : (b : List ℕ) (ts : List Token) (d : Draft) (r : Gathered) → HasTokens b ts → IsForm ts d → IsSound r → read_from nothing_read d.steps ≡ Some r → (own : Bool) → frees_fit (whole_of d r) ≡ own
     → let puts : List Put = if own then own_puts (whole_of d r) else return_puts (whole_of d r) in
     ReadsFilled (edited b ts (whole_of d r) (record { puts = puts })) (whole_of d r) puts
 chosen b ts d r scanned form sound read true fitting =
     subst (λ w. ReadsFilled w (whole_of d r) (own_puts (whole_of d r))) (sym (own_text b ts d r sound)) (own_filled b ts d r scanned form sound read fitting)
 chosen b ts d r scanned form sound read false fitting = return_filled b ts d r scanned form sound read
 
-kept_text : (b : List ℕ) (ts : List Token) (d : Draft) (r : Reading) → IsSound r → fits (whole_of d r) ≡ true → edited b ts (whole_of d r) (choice_of (whole_of d r)) ≡ b
+kept_text : (b : List ℕ) (ts : List Token) (d : Draft) (r : Gathered) → IsSound r → frees_fit (whole_of d r) ≡ true → edited b ts (whole_of d r) (choice_of (whole_of d r)) ≡ b
 kept_text b ts d r sound fitting =
     ap (λ (own : Bool). let puts : List Put = if own then own_puts (whole_of d r) else return_puts (whole_of d r) in edited b ts (whole_of d r) (record { puts = puts })) fitting
     ∙ own_text b ts d r sound
@@ -152,13 +152,13 @@ kept_text b ts d r sound fitting =
 repaired : (b w : List ℕ) (ts : List Token) (p : Program) → HasTokens b ts → IsFirst ts p → w ≡ edited b ts p (choice_of p) → Repairs b w
 repaired b w ts p scanned first e =
     let d = first.draft in
-    let found = program_reading d p (read_from nothing_read d.steps) first.program in
-    let r = found.reading in
+    let found = program_gathered d p (read_from nothing_read d.steps) first.program in
+    let r = found.gathered in
     let sound = sound_of b ts d r scanned first.form found.found in
     let whole : p ≡ whole_of d r = found.is in
-    let f = chosen b ts d r scanned first.form sound found.found (fits (whole_of d r)) refl in
+    let f = chosen b ts d r scanned first.form sound found.found (frees_fit (whole_of d r)) refl in
     let g : ReadsFilled (edited b ts p (choice_of p)) p (choice_of p).puts = subst (λ (q : Program). ReadsFilled (edited b ts q (choice_of q)) q (choice_of q).puts) (sym whole) f in
-    let kept : fits p ≡ true → edited b ts p (choice_of p) ≡ b = subst (λ (q : Program). fits q ≡ true → edited b ts q (choice_of q) ≡ b) (sym whole) (kept_text b ts d r sound) in
+    let kept : frees_fit p ≡ true → edited b ts p (choice_of p) ≡ b = subst (λ (q : Program). frees_fit q ≡ true → edited b ts q (choice_of q) ≡ b) (sym whole) (kept_text b ts d r sound) in
     record {
       program = p;
       filled = g.filled;
@@ -186,12 +186,12 @@ scanned_source b s h = record { last_comment = s.tokens.last_comment; reads = h.
 pub numbered_source : (b : List ℕ) (s : SourceText) → IsSource b s → are_numbered s.program ≡ true
 numbered_source b s h =
     let first = h.first in
-    let found = program_reading first.draft s.program (read_from nothing_read first.draft.steps) first.program in
-    let sound = sound_of b s.tokens.list first.draft found.reading (scanned_source b s h) first.form found.found in
-    ap are_numbered found.is ∙ ap is_ascending (gaps_numbered first.draft found.reading sound) ∙ ascending_range 0 (length found.reading.pieces + 2)
+    let found = program_gathered first.draft s.program (read_from nothing_read first.draft.steps) first.program in
+    let sound = sound_of b s.tokens.list first.draft found.gathered (scanned_source b s h) first.form found.found in
+    ap are_numbered found.is ∙ ap is_ascending (gaps_numbered first.draft found.gathered sound) ∙ ascending_range 0 (length found.gathered.pieces + 2)
 
 pub ordered_source : (b : List ℕ) (s : SourceText) → IsSource b s → AreInOrder s.tokens.list
-ordered_source b s h = Ascend_in_order s.tokens.list (length b) (tokens_ascend b s.tokens.list (scanned_source b s h))
+ordered_source b s h = ascends_in_order s.tokens.list (length b) (tokens_ascend b s.tokens.list (scanned_source b s h))
 
 -- the edit of a source repairs it
 pub repaired_source : (b w : List ℕ) (s : SourceText) → IsSource b s → w ≡ edited b s.tokens.list s.program (choice_of s.program) → Repairs b w

@@ -1,7 +1,8 @@
 -- What steps give is sound.
-use Rattle.std.proofs.Common.{◌≡◌, inl, inr, ℕ, zero, suc, ◌+◌, ◌<◌, ◌≤◌, Bool, true, false, not, ◌&&◌, nat_eq, List, [], ◌∷◌, ◌++◌, length, Option, Some, None, option_map, refl, sym, ◌∙◌, ap, subst, arith, length-append}
+use Rattle.std.proofs.Common.{◌≡◌, inl, inr, ℕ, zero, suc, ◌+◌, ◌<◌, true, false, nat_eq, List, [], ◌∷◌, ◌++◌, length, Option, Some, None, option_map, refl, sym, ◌∙◌, ap, subst, arith, length-append}
 use Rattle.std.specs.Prelude.{slice_get, option_and_then}
 use Rattle.std.specs.Cmp.Lexicographic.{pointwise}
+use Rattle.std.proofs.lemmas.Bool.{and_parts, not-true}
 use Rattle.c_lexer.specs.declared.token.Token.{Token}
 use Rattle.c_lexer.specs.declared.token.Kind.{Kind}
 use Rattle.c_lexer.specs.declared.token.Kind.TheVariants as kind
@@ -20,10 +21,10 @@ use Rattle.memfix_engine.specs.declared.draft.Deed.TheVariants as deed
 use Rattle.memfix_engine.specs.declared.draft.Make.{Make}
 use Rattle.memfix_engine.specs.declared.draft.Release.{Release}
 use Rattle.memfix_engine.specs.declared.draft.Step.{Step}
-use Rattle.memfix_engine.specs.declared.reading.Reading.{Reading}
+use Rattle.memfix_engine.specs.declared.gathered.Gathered.{Gathered}
 use Rattle.memfix_engine.proofs.FreeText.{IsName}
 use Rattle.memfix_engine.specs.Form.{is_main, fits, matches, wants, word_of, word_at, deed_of, Steps, none, more}
-use Rattle.memfix_engine.specs.Reading.{var_of, item_piece, gap_of, with_item, with_make, made, declared, stored, shown, released, stepped, stepped_by, read_from, nothing_read}
+use Rattle.memfix_engine.specs.Gathered.{var_of, item_piece, gap_of, with_item, with_make, made, declared, stored, shown, released, stepped, stepped_by, read_from, nothing_read}
 use Rattle.memfix_engine.proofs.Straight as straight
 use Rattle.memfix_engine.proofs.Straight.{IsStraight, declares, stores, shows, Straight, AreFrees, gap_with, IsSound}
 use Rattle.memfix_engine.proofs.FormLemmas.{matches-length}
@@ -44,27 +45,15 @@ abbrev pub AreNamed : List Step → Type 0
 AreNamed [] = Unit {0}
 AreNamed (s ∷ ss) = IsNamedDeed s.deed × AreNamed ss
 
-pub right_of : (a b : Bool) → (a && b) ≡ true → b ≡ true
-right_of true b h = h
-right_of false b h = cc
-
-pub left_of : (a b : Bool) → (a && b) ≡ true → a ≡ true
-left_of true b h = refl
-left_of false b h = cc
-
-not_true : (b : Bool) → not b ≡ true → b ≡ false
-not_true true h = cc
-not_true false h = refl
-
 fits_name : (k : Kind) → fits Name k ≡ true → IsNamed k → IsName (word_of k) × (is_main (word_of k) ≡ false)
-fits_name (kind.Name w) h n = (n, not_true (is_main w) h)
+fits_name (kind.Name w) h n = (n, not-true (is_main w) h)
 fits_name _ h n = absurd cc
 
 make_named : (ts : List Token) → matches (wants pattern.Make) ts ≡ true → AllNamed ts → IsName (word_at ts 2) × (is_main (word_at ts 2) ≡ false)
 make_named [] h n = absurd cc
 make_named (a ∷ []) h n = absurd (omega (arith, matches-length (wants pattern.Make) (a ∷ []) h))
 make_named (a ∷ b ∷ []) h n = absurd (omega (arith, matches-length (wants pattern.Make) (a ∷ b ∷ []) h))
-make_named (a ∷ b ∷ c ∷ ts) h n = fits_name c.kind (left_of _ _ (right_of _ _ (right_of _ _ h))) n.1.1.0
+make_named (a ∷ b ∷ c ∷ ts) h n = fits_name c.kind (and_parts _ _ (and_parts _ _ (and_parts _ _ h).1).1).0 n.1.1.0
 
 named_by : (p : Pattern) (ts : List Token) → matches (wants p) ts ≡ true → AllNamed ts → IsNamedDeed (deed_of p ts)
 named_by pattern.Make ts h n = make_named ts h n
@@ -90,10 +79,6 @@ Steps-named (more s ss front rest h steps) n = (
 
 -- frees
 
-more_vars : {n m : ℕ} {fs : List Free} → AreFrees n fs → n ≤ m → AreFrees m fs
-more_vars straight.none h = straight.none
-more_vars {n} {m} (straight.more x at start end below rest) h = straight.more x at start end (omega arith) (more_vars rest h)
-
 AreFrees-snoc : {n : ℕ} {fs : List Free} (x at start end : ℕ) → AreFrees n fs → x < n
     → AreFrees n (fs ++ (record { expr = Var x at; start = start; end = end }) ∷ [])
 AreFrees-snoc x at start end straight.none h = straight.more x at start end h straight.none
@@ -109,7 +94,7 @@ Straight-snoc {k} {n} {l = l} {i = i} {fs = fs} j start end straight.none f h e 
 Straight-snoc {k} j start end (straight.more {ps = ps} s t g h rest) f i e =
     straight.more s t g h (Straight-snoc j start end rest f i (omega (arith, e)))
 
-with_item_sound : (r : Reading) (i : Item) (s : Step) → IsSound r → IsStraight (length r.vars) i (length r.vars) → IsSound (with_item r i s)
+with_item_sound : (r : Gathered) (i : Item) (s : Step) → IsSound r → IsStraight (length r.vars) i (length r.vars) → IsSound (with_item r i s)
 with_item_sound r i s h k = record {
   frees = straight.none;
   pieces = Straight-snoc (length r.pieces) s.start s.end h.pieces h.frees k (omega arith);
@@ -118,7 +103,7 @@ with_item_sound r i s h k = record {
   found = h.found;
 }
 
-released_sound : (r : Reading) (s : Step) (t : Release) (x : ℕ) → IsSound r → x < length r.vars → IsSound (released r s t x)
+released_sound : (r : Gathered) (s : Step) (t : Release) (x : ℕ) → IsSound r → x < length r.vars → IsSound (released r s t x)
 released_sound r s t x h below = record {
   frees = AreFrees-snoc x t.name_at s.start s.end h.frees below;
   pieces = h.pieces;
@@ -130,7 +115,7 @@ released_sound r s t x h below = record {
 abbrev made_var : Make → VarDef
 made_var t = record { name = t.name; ty = IntPtr; home = Local 0; at = t.name_at }
 
-with_make_sound : (r : Reading) (s : Step) (t : Make) → IsSound r → IsName t.name → is_main t.name ≡ false → var_of r.vars t.name ≡ None → IsSound (with_make r s t)
+with_make_sound : (r : Gathered) (s : Step) (t : Make) → IsSound r → IsName t.name → is_main t.name ≡ false → var_of r.vars t.name ≡ None → IsSound (with_make r s t)
 with_make_sound r s t h name other new =
     let longer : length r.vars + 1 ≡ length (r.vars ++ made_var t ∷ []) = omega (arith, length-append r.vars (made_var t ∷ [])) in
     record {
@@ -155,19 +140,19 @@ with_make_sound r s t h name other new =
 some_is : {A : Type 0} (x y : A) → Some x ≡ Some y → x ≡ y
 some_is x y h = cc
 
-make_sound : (r q : Reading) (s : Step) (t : Make) (o : Option ℕ) → var_of r.vars t.name ≡ o → IsSound r → IsName t.name × (is_main t.name ≡ false) → made r s t o ≡ Some q → IsSound q
+make_sound : (r q : Gathered) (s : Step) (t : Make) (o : Option ℕ) → var_of r.vars t.name ≡ o → IsSound r → IsName t.name × (is_main t.name ≡ false) → made r s t o ≡ Some q → IsSound q
 make_sound r q s t None e h n g = subst IsSound (some_is (with_make r s t) q g) (with_make_sound r s t h n.0 n.1 e)
 make_sound r q s t (Some x) e h n g = absurd cc
 
 -- a step that speaks of a declared variable
-use_sound : (r q : Reading) (f : ℕ → Reading) (name : List ℕ) (o : Option ℕ) → var_of r.vars name ≡ o
+use_sound : (r q : Gathered) (f : ℕ → Gathered) (name : List ℕ) (o : Option ℕ) → var_of r.vars name ≡ o
     → ((x : ℕ) → x < length r.vars → IsSound (f x)) → option_map f o ≡ Some q → IsSound q
 use_sound r q f name None e k g = absurd cc
 use_sound r q f name (Some x) e k g =
     let below : x < length r.vars = position-below (λ (w : VarDef). pointwise nat_eq w.name name) r.vars x e in
     subst IsSound (some_is (f x) q g) (k x below)
 
-sound_by : (r q : Reading) (s : Step) (d : Deed) → IsSound r → IsNamedDeed d → stepped_by r s d ≡ Some q → IsSound q
+sound_by : (r q : Gathered) (s : Step) (d : Deed) → IsSound r → IsNamedDeed d → stepped_by r s d ≡ Some q → IsSound q
 sound_by r q s (deed.Make t) h n g = make_sound r q s t (var_of r.vars t.name) refl h n g
 sound_by r q s (deed.Store t) h n g =
     use_sound r q (λ x. with_item r (stored t s.start x) s) t.name (var_of r.vars t.name) refl (λ x b. with_item_sound r (stored t s.start x) s h (stores t s.start x b)) g
@@ -176,12 +161,12 @@ sound_by r q s (deed.Show t) h n g =
 sound_by r q s (deed.Release t) h n g = use_sound r q (released r s t) t.name (var_of r.vars t.name) refl (λ x b. released_sound r s t x h b) g
 sound_by r q s deed.Empty h n g = subst IsSound (some_is r q g) h
 
-read_on : (ss : List Step) (r q : Reading) (s : Step) → ((k : Reading) → stepped r s ≡ Some k → read_from k ss ≡ Some q → IsSound q)
-    → (o : Option Reading) → stepped r s ≡ o → option_and_then (λ k. read_from k ss) o ≡ Some q → IsSound q
+read_on : (ss : List Step) (r q : Gathered) (s : Step) → ((k : Gathered) → stepped r s ≡ Some k → read_from k ss ≡ Some q → IsSound q)
+    → (o : Option Gathered) → stepped r s ≡ o → option_and_then (λ k. read_from k ss) o ≡ Some q → IsSound q
 read_on ss r q s f None e g = absurd cc
 read_on ss r q s f (Some k) e g = f k e g
 
-sound_from : (ss : List Step) (r q : Reading) → AreNamed ss → IsSound r → read_from r ss ≡ Some q → IsSound q
+sound_from : (ss : List Step) (r q : Gathered) → AreNamed ss → IsSound r → read_from r ss ≡ Some q → IsSound q
 sound_from [] r q n h g = subst IsSound (some_is r q g) h
 sound_from (s ∷ ss) r q n h g =
     read_on ss r q s (λ k e more. sound_from ss k q n.1 (sound_by r k s s.deed h n.0 e) more) (stepped r s) refl g
@@ -199,6 +184,6 @@ nothing_sound = record {
   found = λ k v h. absurd (empty_get k v h);
 }
 
--- steps whose names are names other than main make a sound reading
-pub read_sound : (ss : List Step) (r : Reading) → AreNamed ss → read_from nothing_read ss ≡ Some r → IsSound r
+-- what steps give is sound where their names are names other than main
+pub read_sound : (ss : List Step) (r : Gathered) → AreNamed ss → read_from nothing_read ss ≡ Some r → IsSound r
 read_sound ss r n g = sound_from ss nothing_read r n nothing_sound g

@@ -10,10 +10,10 @@ use Rattle.c_tree.specs.declared.program.VarDef.{VarDef}
 use Rattle.memfix_engine.specs.declared.draft.Make.{Make}
 use Rattle.memfix_engine.specs.declared.draft.Store.{Store}
 use Rattle.memfix_engine.specs.declared.draft.Show.{Show}
-use Rattle.memfix_engine.specs.declared.reading.Reading.{Reading}
+use Rattle.memfix_engine.specs.declared.gathered.Gathered.{Gathered}
 use Rattle.memfix_engine.proofs.FreeText.{IsName}
 use Rattle.memfix_engine.specs.Form.{is_main}
-use Rattle.memfix_engine.specs.Reading.{declared, stored, shown, item_piece, var_of}
+use Rattle.memfix_engine.specs.Gathered.{declared, stored, shown, item_piece, var_of}
 
 -- an item behind `before` variables, and behind it there are `behind`
 pub data IsStraight : (before : ℕ) → Item → (behind : ℕ) → Type 0 where
@@ -36,7 +36,7 @@ pub data Straight : (k before : ℕ) → List Piece → (behind : ℕ) → Type 
       → Straight k n (item_piece (gap_with k fs) i start end ∷ ps) l
 
 -- what steps have given
-pub record IsSound (r : Reading) : Type 0 where
+pub record IsSound (r : Gathered) : Type 0 where
   pub frees : AreFrees (length r.vars) r.frees
   pub pieces : Straight 0 0 r.pieces (length r.vars)
   pub named : (k : ℕ) (v : VarDef) → slice_get r.vars k ≡ Some v → IsName v.name

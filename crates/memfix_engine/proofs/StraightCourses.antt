@@ -25,8 +25,8 @@ use Rattle.c_meaning.proofs.First.Plain.{IsPlain, IsApart, store_of, line_of}
 use Rattle.c_meaning.proofs.First.Courses as courses
 use Rattle.c_meaning.proofs.First.Courses.{Course, safe_course}
 use Rattle.memfix_engine.specs.declared.draft.Draft.{Draft}
-use Rattle.memfix_engine.specs.declared.reading.Reading.{Reading}
-use Rattle.memfix_engine.specs.Reading.{item_piece, gap_of, return_of, result_of, body_of, main_of, whole_of}
+use Rattle.memfix_engine.specs.declared.gathered.Gathered.{Gathered}
+use Rattle.memfix_engine.specs.Gathered.{item_piece, gap_of, return_of, result_of, body_of, main_of, whole_of}
 use Rattle.memfix_engine.proofs.Straight.{IsStraight, gap_with}
 use Rattle.memfix_engine.proofs.GapLemmas.{return_piece}
 
@@ -84,7 +84,7 @@ does (IsStraight.shows t word x h) = record {
 }
 
 -- the item behind the first ones
-item_behind : (d : Draft) (r : Reading) (i : ℕ) (front ps : List Piece) (piece : Piece) → r.pieces ≡ front ++ piece ∷ ps → length front ≡ i → slice_get (out-Block (body_of d r)).items i ≡ Some piece
+item_behind : (d : Draft) (r : Gathered) (i : ℕ) (front ps : List Piece) (piece : Piece) → r.pieces ≡ front ++ piece ∷ ps → length front ≡ i → slice_get (out-Block (body_of d r)).items i ≡ Some piece
 item_behind d r i front ps piece e h =
     ap (λ (b : Block-F Item Arm Block Piece). slice_get b.items i) (out-roll-Block _)
     ∙ ap (λ (qs : List Piece). slice_get (qs ++ return_piece d r ∷ []) i) e
@@ -92,7 +92,7 @@ item_behind d r i front ps piece e h =
     ∙ ap (λ (k : ℕ). slice_get (front ++ piece ∷ (ps ++ return_piece d r ∷ [])) k) (sym h)
     ∙ get_seam front piece (ps ++ return_piece d r ∷ [])
 
-return_behind : (d : Draft) (r : Reading) (i : ℕ) → length r.pieces ≡ i → slice_get (out-Block (body_of d r)).items i ≡ Some (return_piece d r)
+return_behind : (d : Draft) (r : Gathered) (i : ℕ) → length r.pieces ≡ i → slice_get (out-Block (body_of d r)).items i ≡ Some (return_piece d r)
 return_behind d r i h =
     ap (λ (b : Block-F Item Arm Block Piece). slice_get b.items i) (out-roll-Block _)
     ∙ ap (λ (k : ℕ). slice_get (r.pieces ++ return_piece d r ∷ []) k) (sym h)
@@ -104,27 +104,27 @@ piece_layer g i start end l h = ap (λ (p : Piece-F Item Arm Block Piece). out-I
 piece_frees : (g : Gap) (i : Item) (start end : ℕ) → (out-Piece (item_piece g i start end)).gap.frees ≡ g.frees
 piece_frees g i start end = ap (λ (p : Piece-F Item Arm Block Piece). p.gap.frees) (out-roll-Piece (record { gap = g; item = i; start = start; end = end }))
 
-stands_item : {n m : ℕ} {it : Item} {straight : IsStraight n it m} (d : Draft) (r : Reading) (i : ℕ) (front ps : List Piece) (g : Gap) (start end : ℕ) → r.pieces ≡ front ++ item_piece g it start end ∷ ps → length front ≡ i
+stands_item : {n m : ℕ} {it : Item} {straight : IsStraight n it m} (d : Draft) (r : Gathered) (i : ℕ) (front ps : List Piece) (g : Gap) (start end : ℕ) → r.pieces ≡ front ++ item_piece g it start end ∷ ps → length front ≡ i
     → (it_does : Does n m it straight) → Stands (whole_of d r) i g.frees it_does.action
 stands_item {it = it} d r i front ps g start end e h it_does =
     subst (λ (fs : List Free). Stands (whole_of d r) i fs it_does.action) (piece_frees g it start end)
     (stands_at (whole_of d r) (main_of d (body_of d r)) i (item_piece g it start end) it_does.layer it_does.action refl
     (item_behind d r i front ps (item_piece g it start end) e h) (piece_layer g it start end it_does.layer it_does.opened) it_does.one)
 
-onward_item : {n m : ℕ} {it : Item} {straight : IsStraight n it m} (d : Draft) (r : Reading) (i : ℕ) (front ps : List Piece) (g : Gap) (start end : ℕ) → r.pieces ≡ front ++ item_piece g it start end ∷ ps → length front ≡ i
+onward_item : {n m : ℕ} {it : Item} {straight : IsStraight n it m} (d : Draft) (r : Gathered) (i : ℕ) (front ps : List Piece) (g : Gap) (start end : ℕ) → r.pieces ≡ front ++ item_piece g it start end ∷ ps → length front ≡ i
     → Does n m it straight → GoesOn (whole_of d r) i
 onward_item {it = it} d r i front ps g start end e h it_does =
     onward_at (whole_of d r) (main_of d (body_of d r)) i (item_piece g it start end) it_does.layer it_does.action refl
     (item_behind d r i front ps (item_piece g it start end) e h) (piece_layer g it start end it_does.layer it_does.opened) it_does.one it_does.goes
 
-stands_return : (d : Draft) (r : Reading) (i : ℕ) → length r.pieces ≡ i → Stands (whole_of d r) i r.frees (parts.Return (Some (expr.Const d.number d.number_at)) d.return_at)
+stands_return : (d : Draft) (r : Gathered) (i : ℕ) → length r.pieces ≡ i → Stands (whole_of d r) i r.frees (parts.Return (Some (expr.Const d.number d.number_at)) d.return_at)
 stands_return d r i h =
     subst (λ (fs : List Free). Stands (whole_of d r) i fs (parts.Return (Some (expr.Const d.number d.number_at)) d.return_at)) (piece_frees (gap_of r) (return_of d) d.return_at d.return_end)
     (stands_at (whole_of d r) (main_of d (body_of d r)) i (return_piece d r) (layer.Return (Some (right.Plain (expr.Const d.number d.number_at))) d.return_at) (parts.Return (Some (expr.Const d.number d.number_at)) d.return_at) refl
     (return_behind d r i h) (piece_layer (gap_of r) (return_of d) d.return_at d.return_end _ (item.outs-Return _ _)) (record { part = λ slot. refl; entry = refl }))
 
 -- the program from an item on
-course : {l : ℕ} (d : Draft) (r : Reading) {k n : ℕ} {gone : List ℕ} {ps : List Piece} (front : List Piece) → FreesAlong l r.frees k n gone ps → r.pieces ≡ front ++ ps → length front ≡ k → Course (whole_of d r) d.number l k n gone
+course : {l : ℕ} (d : Draft) (r : Gathered) {k n : ℕ} {gone : List ℕ} {ps : List Piece} (front : List Piece) → FreesAlong l r.frees k n gone ps → r.pieces ≡ front ++ ps → length front ≡ k → Course (whole_of d r) d.number l k n gone
 course d r {k = k} front (ends frees all) e h = courses.ends d.number_at d.return_at (stands_return d r k (ap length (e ∙ append-nil front) ∙ h)) frees all
 course d r {k = k} front (goes {now = now} {fs = fs} {i = it} {ps = ps} start end frees straight unused rest) e h =
     let piece = item_piece (gap_with k fs) it start end in
@@ -134,12 +134,12 @@ course d r {k = k} front (goes {now = now} {fs = fs} {i = it} {ps = ps} start en
     courses.goes (stands_item d r k front ps (gap_with k fs) start end e h it_does) (onward_item d r k front ps (gap_with k fs) start end e h it_does) frees
     it_does.plain (it_does.apart now unused) (course d r (front ++ piece ∷ []) rest onto count)
 
-gaps_count : (d : Draft) (r : Reading) → (whole_of d r).gaps ≡ (length r.pieces + 1) + 1
+gaps_count : (d : Draft) (r : Gathered) → (whole_of d r).gaps ≡ (length r.pieces + 1) + 1
 gaps_count d r = omega arith
 
-vars_count : (d : Draft) (r : Reading) → length r.vars ≤ length (whole_of d r).vars
+vars_count : (d : Draft) (r : Gathered) → length r.vars ≤ length (whole_of d r).vars
 vars_count d r = let e = length-append r.vars (result_of d ∷ []) in omega arith
 
-pub safe_along : (d : Draft) (r : Reading) → FreesAlong (length r.vars) r.frees 0 0 [] r.pieces → Safe (whole_of d r)
+pub safe_along : (d : Draft) (r : Gathered) → FreesAlong (length r.vars) r.frees 0 0 [] r.pieces → Safe (whole_of d r)
 safe_along d r along =
     safe_course (whole_of d r) (length r.pieces + 1) (gaps_count d r) refl (vars_count d r) (course d r [] along refl refl)

@@ -9,9 +9,9 @@ use Rattle.c_meaning.specs.Safe.{Safe}
 use Rattle.c_meaning.proofs.First.Held.{is_in_other}
 use Rattle.c_meaning.proofs.First.Returns.{AllVars-order}
 use Rattle.memfix_engine.specs.declared.draft.Draft.{Draft}
-use Rattle.memfix_engine.specs.declared.reading.Reading.{Reading}
-use Rattle.memfix_engine.specs.Own.{fits}
-use Rattle.memfix_engine.specs.Reading.{whole_of}
+use Rattle.memfix_engine.specs.declared.gathered.Gathered.{Gathered}
+use Rattle.memfix_engine.specs.Own.{frees_fit}
+use Rattle.memfix_engine.specs.Gathered.{whole_of}
 use Rattle.memfix_engine.proofs.Straight.{IsStraight, IsSound}
 use Rattle.memfix_engine.proofs.Emptied as emptied
 use Rattle.memfix_engine.proofs.Emptied.{Clear}
@@ -55,10 +55,10 @@ clear_along emptied.none a = ends a.frees a.all
 clear_along (emptied.more start end s rest) a = goes start end Frees.none s (uses_none s) (clear_along rest a)
 
 -- with the frees of all variables before its return, and none before, a straight program is safe
-pub safe_clear : (d : Draft) (r : Reading) → Clear 0 0 r.pieces (length r.vars) → AllVars 0 (length r.vars) r.frees → Safe (whole_of d r)
+pub safe_clear : (d : Draft) (r : Gathered) → Clear 0 0 r.pieces (length r.vars) → AllVars 0 (length r.vars) r.frees → Safe (whole_of d r)
 safe_clear d r clear vars =
     safe_along d r (clear_along clear (all_freed [] vars (record { below = λ y h. absurd (omega arith); from = λ y h. refl })))
 
 -- a straight program whose own frees fit is safe
-pub safe_own : (d : Draft) (r : Reading) → IsSound r → fits (whole_of d r) ≡ true → Safe (whole_of d r)
+pub safe_own : (d : Draft) (r : Gathered) → IsSound r → frees_fit (whole_of d r) ≡ true → Safe (whole_of d r)
 safe_own d r sound h = safe_along d r (own_along d r sound h)

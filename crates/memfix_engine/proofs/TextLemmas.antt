@@ -1,24 +1,25 @@
 -- The tokens of a program's text: each text has one list of them, and what `free` statements put before a token, and blanks
 -- in a token's place, do to them.
-use Rattle.std.proofs.Common.{◌≡◌, ℕ, suc, zero, ◌+◌, ◌<◌, ◌≤◌, Bool, true, false, List, [], ◌∷◌, ◌++◌, length, take, drop, map, flat_map, All, Some, None, refl, sym, ap, subst, ◌∙◌, arith, append_assoc, length-append, length-drop, add-one}
+use Rattle.std.proofs.Common.{◌≡◌, ℕ, suc, zero, ◌+◌, ◌<◌, ◌≤◌, Bool, true, false, List, [], ◌∷◌, ◌++◌, length, take, drop, map, flat_map, All, Some, None, refl, sym, ap, subst, ◌∙◌, arith, append_assoc, length-append, add-one}
 use Rattle.std.specs.Prelude.{codes, not}
-use Rattle.std.proofs.lemmas.Bool.{and_parts}
+use Rattle.std.proofs.lemmas.Bool.{and_parts, not-true}
 use Rattle.std.proofs.lemmas.List.{take-append-drop, append-nil, drop_at}
 use Rattle.c_lexer.specs.declared.token.Token.{Token}
 use Rattle.c_lexer.specs.declared.token.Kind.{Kind}
 use Rattle.c_lexer.specs.declared.token.Kind.TheVariants.{Name, Key, Punct}
-use Rattle.c_lexer.specs.declared.piece.Piece.{Piece}
-use Rattle.c_lexer.specs.declared.piece.Piece.TheVariants as piece
+use Rattle.c_lexer.specs.declared.element.Element.{Element}
+use Rattle.c_lexer.specs.declared.element.Element.TheVariants as element
 use Rattle.c_lexer.specs.declared.reading.Reading.{Reading}
 use Rattle.c_lexer.specs.Bytes.{is_digit, is_word_byte, class_of}
 use Rattle.c_lexer.specs.Words.{punctuator_kind}
-use Rattle.c_lexer.specs.Pieces.{IsPiece, IsPunctuator}
+use Rattle.c_lexer.specs.Elements.{IsElement, IsPunctuator}
 use Rattle.c_lexer.specs.Scan.{Scan, ends, goes_on, fresh_behind, last_reading, HasTokens}
-use Rattle.c_lexer.proofs.LocalPasses.{NoneRefused, piece_some}
+use Rattle.c_lexer.proofs.LocalPasses.{NoneRefused}
 use Rattle.c_lexer.proofs.Passes.{Passes, here, past, nothing, passes_append}
-use Rattle.c_lexer.proofs.Lexemes.{Spelling, piece_within, name_spelling, name_piece}
+use Rattle.c_lexer.proofs.Lexemes.{Spelling, name_spelling, name_element}
 use Rattle.c_lexer.proofs.Edits.{only, tokens_put}
 pub use Rattle.c_lexer.proofs.Edits.{tokens_unique, tokens_blanked}
+pub use Rattle.c_lexer.proofs.Order.{Ascends, tokens_ascend}
 use Rattle.memfix_engine.specs.declared.kinds.TheConstants.{KEY_FREE, PUNCT_OPEN, PUNCT_CLOSE, PUNCT_SEMICOLON}
 use Rattle.memfix_engine.specs.Edit.{free_text}
 use Rattle.memfix_engine.proofs.FreeText.{begins_word, IsName, token_of, free_tokens_of, free_tokens, shifted}
@@ -29,11 +30,7 @@ name_is_spelled : (x : List ℕ) → IsName x → Spelling x
 name_is_spelled [] name = let none = name.begins in cc
 name_is_spelled (c ∷ cs) name =
     let parts = and_parts (is_word_byte c) (not (is_digit c)) name.begins in
-    record { first = c; others = cs; is = refl; no_digit = no_digit (is_digit c) parts.1; word_byte = parts.0; word = name.word; named = name.is }
-  where
-    no_digit : (b : Bool) → not b ≡ true → b ≡ false
-    no_digit true e = cc
-    no_digit false e = refl
+    record { first = c; others = cs; is = refl; no_digit = not-true (is_digit c) parts.1; word_byte = parts.0; word = name.word; named = name.is }
 
 spelled_is_name : (x : List ℕ) → Spelling x → IsName x
 spelled_is_name x spelling = record { begins = ap begins_word spelling.is ∙ begun; word = spelling.word; is = spelling.named }
@@ -51,85 +48,45 @@ abbrev pub AllNamed : List Token → Type 0
 AllNamed [] = Unit {0}
 AllNamed (t ∷ ts) = IsNamed t.kind × AllNamed ts
 
-piece_named : (fresh : Bool) (xs : List ℕ) (kind : Kind) (n : ℕ) → IsPiece (class_of fresh xs) xs (piece.Lexeme kind n) → IsNamed kind
-piece_named fresh xs (Name x) n is = spelled_is_name x (name_spelling fresh xs x n is)
-piece_named fresh xs _ n is = tt
+element_named : (fresh : Bool) (xs : List ℕ) (kind : Kind) (n : ℕ) → IsElement (class_of fresh xs) xs (element.Lexeme kind n) → IsNamed kind
+element_named fresh xs (Name x) n is = spelled_is_name x (name_spelling fresh xs x n is)
+element_named fresh xs _ n is = tt
 
-no_last_tokens : (at : ℕ) (p : Piece) → (last_reading at p).tokens ≡ []
-no_last_tokens at piece.End = refl
-no_last_tokens at piece.Blank = refl
-no_last_tokens at (piece.Comment n) = refl
-no_last_tokens at (piece.Include n) = refl
-no_last_tokens at (piece.Lexeme kind n) = refl
-no_last_tokens at (piece.Bad fault n) = refl
+no_last_tokens : (at : ℕ) (p : Element) → (last_reading at p).tokens ≡ []
+no_last_tokens at element.End = refl
+no_last_tokens at element.Blank = refl
+no_last_tokens at (element.Comment n) = refl
+no_last_tokens at (element.Include n) = refl
+no_last_tokens at (element.Lexeme kind n) = refl
+no_last_tokens at (element.Bad fault n) = refl
 
 scan_named : (fresh : Bool) (at : ℕ) (xs : List ℕ) (r : Reading) → Scan fresh at xs r → AllNamed r.tokens
 scan_named fresh at xs _ (ends p is last) = subst AllNamed (sym (no_last_tokens at p)) tt
-scan_named fresh at xs _ (goes_on piece.End is goes rest) = absurd goes
-scan_named fresh at xs _ (goes_on (piece.Bad fault n) is goes rest) = absurd goes
-scan_named fresh at xs _ (goes_on {r = r} piece.Blank is goes rest) = scan_named (fresh_behind fresh xs piece.Blank) (at + 1) (drop 1 xs) r rest
-scan_named fresh at xs _ (goes_on {r = r} (piece.Comment n) is goes rest) = scan_named false (at + n) (drop n xs) r rest
-scan_named fresh at xs _ (goes_on {r = r} (piece.Include n) is goes rest) = scan_named false (at + n) (drop n xs) r rest
-scan_named fresh at xs _ (goes_on {r = r} (piece.Lexeme kind n) is goes rest) = (piece_named fresh xs kind n is, scan_named false (at + n) (drop n xs) r rest)
+scan_named fresh at xs _ (goes_on element.End is goes rest) = absurd goes
+scan_named fresh at xs _ (goes_on (element.Bad fault n) is goes rest) = absurd goes
+scan_named fresh at xs _ (goes_on {r = r} element.Blank is goes rest) = scan_named (fresh_behind fresh xs element.Blank) (at + 1) (drop 1 xs) r rest
+scan_named fresh at xs _ (goes_on {r = r} (element.Comment n) is goes rest) = scan_named false (at + n) (drop n xs) r rest
+scan_named fresh at xs _ (goes_on {r = r} (element.Include n) is goes rest) = scan_named false (at + n) (drop n xs) r rest
+scan_named fresh at xs _ (goes_on {r = r} (element.Lexeme kind n) is goes rest) = (element_named fresh xs kind n is, scan_named false (at + n) (drop n xs) r rest)
 
 pub tokens_named : (b : List ℕ) (ts : List Token) → HasTokens b ts → AllNamed ts
 tokens_named b ts has = scan_named true 0 b (record { tokens = ts; last_comment = has.last_comment; fault = None }) has.reads
 
-pub AllNamed_at : (ts us : List Token) (t : Token) → AllNamed (ts ++ t ∷ us) → IsNamed t.kind
-AllNamed_at [] us t named = named.0
-AllNamed_at (t' ∷ ts) us t named = AllNamed_at ts us t named.1
-
 -- ---- places
 
--- the tokens stand from one offset to another, one behind the other
-abbrev pub Ascend : ℕ → List Token → ℕ → Type 0
-Ascend at [] last = at ≤ last
-Ascend at (t ∷ ts) last = (at ≤ t.start) × (t.start < t.end) × Ascend t.end ts last
-
-Ascend_from : (at at' : ℕ) (ts : List Token) (last : ℕ) → at ≤ at' → Ascend at' ts last → Ascend at ts last
-Ascend_from at at' [] last below ascend = omega arith
-Ascend_from at at' (t ∷ ts) last below ascend = (omega (arith, ascend.0), ascend.1, ascend.2)
-
--- the end of the text, from behind a piece
-end_behind : (at n : ℕ) (xs : List ℕ) → n ≤ length xs → at + n + length (drop n xs) ≡ at + length xs
-end_behind at n xs within = omega (arith, length-drop n xs)
-
-ascend_past : (at n : ℕ) (xs : List ℕ) (ts : List Token) → n ≤ length xs → Ascend (at + n) ts (at + n + length (drop n xs)) → Ascend at ts (at + length xs)
-ascend_past at n xs ts within ascend = Ascend_from at (at + n) ts (at + length xs) (omega arith) (subst (λ last. Ascend (at + n) ts last) (end_behind at n xs within) ascend)
-
-scan_ascend : (fresh : Bool) (at : ℕ) (xs : List ℕ) (r : Reading) → Scan fresh at xs r → Ascend at r.tokens (at + length xs)
-scan_ascend fresh at xs _ (ends p is last) = let inside : at ≤ at + length xs = omega arith in subst (λ ts. Ascend at ts (at + length xs)) (sym (no_last_tokens at p)) inside
-scan_ascend fresh at xs _ (goes_on piece.End is goes rest) = absurd goes
-scan_ascend fresh at xs _ (goes_on (piece.Bad fault n) is goes rest) = absurd goes
-scan_ascend fresh at xs _ (goes_on {r = r} piece.Blank is goes rest) =
-    ascend_past at 1 xs r.tokens (piece_within fresh xs piece.Blank tt is) (scan_ascend (fresh_behind fresh xs piece.Blank) (at + 1) (drop 1 xs) r rest)
-scan_ascend fresh at xs _ (goes_on {r = r} (piece.Comment n) is goes rest) =
-    ascend_past at n xs r.tokens (piece_within fresh xs (piece.Comment n) tt is) (scan_ascend false (at + n) (drop n xs) r rest)
-scan_ascend fresh at xs _ (goes_on {r = r} (piece.Include n) is goes rest) =
-    ascend_past at n xs r.tokens (piece_within fresh xs (piece.Include n) tt is) (scan_ascend false (at + n) (drop n xs) r rest)
-scan_ascend fresh at xs _ (goes_on {r = r} (piece.Lexeme kind n) is goes rest) =
-    let within = piece_within fresh xs (piece.Lexeme kind n) tt is in
-    let some = piece_some fresh xs (piece.Lexeme kind n) tt is in
-    (omega arith, omega (arith, some), subst (λ last. Ascend (at + n) r.tokens last) (end_behind at n xs within) (scan_ascend false (at + n) (drop n xs) r rest))
-
-pub tokens_ascend : (b : List ℕ) (ts : List Token) → HasTokens b ts → Ascend 0 ts (length b)
-tokens_ascend b ts has =
-    let same : 0 + length b ≡ length b = omega arith in
-    subst (λ last. Ascend 0 ts last) same (scan_ascend true 0 b (record { tokens = ts; last_comment = has.last_comment; fault = None }) has.reads)
-
 -- what that says of a token among them: those before end by its start, and those behind start from its end
-pub Ascend_at : (a : ℕ) (ts us : List Token) (t : Token) (l : ℕ) → Ascend a (ts ++ t ∷ us) l → Ascend a ts t.start × (t.start < t.end) × Ascend t.end us l
-Ascend_at a [] us t l ascend = ascend
-Ascend_at a (t' ∷ ts) us t l ascend = let p = Ascend_at t'.end ts us t l ascend.2 in ((ascend.0, ascend.1, p.0), p.1, p.2)
+pub ascends_at : (a : ℕ) (ts us : List Token) (t : Token) (l : ℕ) → Ascends a (ts ++ t ∷ us) l → Ascends a ts t.start × (t.start < t.end) × Ascends t.end us l
+ascends_at a [] us t l ascend = ascend
+ascends_at a (t' ∷ ts) us t l ascend = let p = ascends_at t'.end ts us t l ascend.2 in ((ascend.0, ascend.1, p.0), p.1, p.2)
 
-pub Ascend_le : (a : ℕ) (ts : List Token) (l : ℕ) → Ascend a ts l → a ≤ l
-Ascend_le a [] l ascend = ascend
-Ascend_le a (t ∷ ts) l ascend = omega (arith, ascend.0, ascend.1, Ascend_le t.end ts l ascend.2)
+pub ascends_le : (a : ℕ) (ts : List Token) (l : ℕ) → Ascends a ts l → a ≤ l
+ascends_le a [] l ascend = ascend
+ascends_le a (t ∷ ts) l ascend = omega (arith, ascend.0, ascend.1, ascends_le t.end ts l ascend.2)
 
 -- ---- the text of `free` statements
 
 -- a punctuator of one byte, where none goes on with this byte
-one_byte : (c : ℕ) (rest : List ℕ) (kind : Kind) → punctuator_kind (c ∷ []) ≡ Some kind → ((y : ℕ) (ys : List ℕ) → punctuator_kind (c ∷ y ∷ ys) ≡ None) → IsPunctuator (c ∷ rest) (piece.Lexeme kind 1)
+one_byte : (c : ℕ) (rest : List ℕ) (kind : Kind) → punctuator_kind (c ∷ []) ≡ Some kind → ((y : ℕ) (ys : List ℕ) → punctuator_kind (c ∷ y ∷ ys) ≡ None) → IsPunctuator (c ∷ rest) (element.Lexeme kind 1)
 one_byte c rest kind is alone = (omega arith, is, λ m above within. longer m rest above within)
   where
     longer : (m : ℕ) (r : List ℕ) → 1 < m → m ≤ length (c ∷ r) → punctuator_kind (take m (c ∷ r)) ≡ None
@@ -138,7 +95,7 @@ one_byte c rest kind is alone = (omega arith, is, λ m above within. longer m re
     longer (suc (suc m)) [] above within = absurd (omega arith)
     longer (suc (suc m)) (y ∷ ys) above within = alone y (take m ys)
 
-free_word : (fresh : Bool) (rest : List ℕ) → IsPiece (class_of fresh (102 ∷ 114 ∷ 101 ∷ 101 ∷ 40 ∷ rest)) (102 ∷ 114 ∷ 101 ∷ 101 ∷ 40 ∷ rest) (piece.Lexeme (Key KEY_FREE) 4)
+free_word : (fresh : Bool) (rest : List ℕ) → IsElement (class_of fresh (102 ∷ 114 ∷ 101 ∷ 101 ∷ 40 ∷ rest)) (102 ∷ 114 ∷ 101 ∷ 101 ∷ 40 ∷ rest) (element.Lexeme (Key KEY_FREE) 4)
 free_word true rest = refl
 free_word false rest = refl
 
@@ -155,10 +112,10 @@ free_text_joined x s = ap (λ ys. 32 ∷ 102 ∷ 114 ∷ 101 ∷ 101 ∷ 40 ∷ 
 free_end : (at n : ℕ) (s : List ℕ) → Passes false (at + 6 + n) (41 ∷ 59 ∷ 32 ∷ s) 3 false (only (token_of (Punct PUNCT_CLOSE) (at + 6 + n) 1 ∷ token_of (Punct PUNCT_SEMICOLON) (at + 7 + n) 1 ∷ []))
 free_end at n s =
     let next : at + 6 + n + 1 ≡ at + 7 + n = omega arith in
-    let space : Passes false (at + 7 + n + 1) (32 ∷ s) 1 false nothing = past piece.Blank refl tt here in
+    let space : Passes false (at + 7 + n + 1) (32 ∷ s) 1 false nothing = past element.Blank refl tt here in
     let semicolon : Passes false (at + 7 + n) (59 ∷ 32 ∷ s) 2 false (only (token_of (Punct PUNCT_SEMICOLON) (at + 7 + n) 1 ∷ [])) =
-    past (piece.Lexeme (Punct PUNCT_SEMICOLON) 1) (one_byte 59 (32 ∷ s) (Punct PUNCT_SEMICOLON) refl (λ y ys. refl)) tt space in
-    past (piece.Lexeme (Punct PUNCT_CLOSE) 1) (one_byte 41 (59 ∷ 32 ∷ s) (Punct PUNCT_CLOSE) refl (λ y ys. refl)) tt (passes_from next semicolon)
+    past (element.Lexeme (Punct PUNCT_SEMICOLON) 1) (one_byte 59 (32 ∷ s) (Punct PUNCT_SEMICOLON) refl (λ y ys. refl)) tt space in
+    past (element.Lexeme (Punct PUNCT_CLOSE) 1) (one_byte 41 (59 ∷ 32 ∷ s) (Punct PUNCT_CLOSE) refl (λ y ys. refl)) tt (passes_from next semicolon)
 
 -- from the name on
 name_on : (at : ℕ) (x s : List ℕ) → IsName x
@@ -166,7 +123,7 @@ name_on : (at : ℕ) (x s : List ℕ) → IsName x
 name_on at x s name =
     let n = length x in
     let rest = subst (λ ys. Passes false (at + 6 + n) ys 3 false (only (token_of (Punct PUNCT_CLOSE) (at + 6 + n) 1 ∷ token_of (Punct PUNCT_SEMICOLON) (at + 7 + n) 1 ∷ []))) (sym (drop_at x (41 ∷ 59 ∷ 32 ∷ s) n refl)) (free_end at n s) in
-    past (piece.Lexeme (Name x) n) (name_piece x (59 ∷ 32 ∷ s) 41 (name_is_spelled x name) refl) tt rest
+    past (element.Lexeme (Name x) n) (name_element x (59 ∷ 32 ∷ s) 41 (name_is_spelled x name) refl) tt rest
 
 -- whatever stands around it
 free_passes : (fresh : Bool) (at : ℕ) (x s : List ℕ) → IsName x → Passes fresh at (free_text x ++ s) (length (free_text x)) false (only (free_tokens_of at x))
@@ -174,10 +131,10 @@ free_passes fresh at x s name =
     let e5 : at + 1 + 4 ≡ at + 5 = omega arith in
     let e6 : at + 5 + 1 ≡ at + 6 = omega arith in
     let rest = x ++ 41 ∷ 59 ∷ 32 ∷ s in
-    let behind_space = fresh_behind fresh (32 ∷ 102 ∷ 114 ∷ 101 ∷ 101 ∷ 40 ∷ rest) piece.Blank in
-    let open_ = past (piece.Lexeme (Punct PUNCT_OPEN) 1) (one_byte 40 rest (Punct PUNCT_OPEN) refl (λ y ys. refl)) tt (passes_from e6 (name_on at x s name)) in
-    let word = past (piece.Lexeme (Key KEY_FREE) 4) (free_word behind_space rest) tt (passes_from e5 open_) in
-    let whole : Passes fresh at (32 ∷ 102 ∷ 114 ∷ 101 ∷ 101 ∷ 40 ∷ rest) (1 + (4 + (1 + (length x + 3)))) false (only (free_tokens_of at x)) = past piece.Blank refl tt word in
+    let behind_space = fresh_behind fresh (32 ∷ 102 ∷ 114 ∷ 101 ∷ 101 ∷ 40 ∷ rest) element.Blank in
+    let open_ = past (element.Lexeme (Punct PUNCT_OPEN) 1) (one_byte 40 rest (Punct PUNCT_OPEN) refl (λ y ys. refl)) tt (passes_from e6 (name_on at x s name)) in
+    let word = past (element.Lexeme (Key KEY_FREE) 4) (free_word behind_space rest) tt (passes_from e5 open_) in
+    let whole : Passes fresh at (32 ∷ 102 ∷ 114 ∷ 101 ∷ 101 ∷ 40 ∷ rest) (1 + (4 + (1 + (length x + 3)))) false (only (free_tokens_of at x)) = past element.Blank refl tt word in
     let size : 1 + (4 + (1 + (length x + 3))) ≡ length (free_text x) = omega (arith, length-free_text x) in
     subst (λ ys. Passes fresh at ys (length (free_text x)) false (only (free_tokens_of at x))) (sym (free_text_joined x s)) (subst (λ k. Passes fresh at (32 ∷ 102 ∷ 114 ∷ 101 ∷ 101 ∷ 40 ∷ rest) k false (only (free_tokens_of at x))) size whole)
 

@@ -72,13 +72,13 @@ abbrev pub changes : List Token → Program → List Put → List Change
 changes ts p puts = flat_map (λ f. block_changes ts p.vars puts f.body) p.funs
 
 -- the bytes from the offset `at` on, with the changes made; all other bytes stay
-abbrev pub changed : ℕ → List Change → List ℕ → List ℕ
-changed at [] bytes = bytes
-changed at (c ∷ more) bytes = take (c.start - at) bytes ++ c.text ++ changed c.end more (drop (c.end - at) bytes)
+abbrev pub with_changes : ℕ → List Change → List ℕ → List ℕ
+with_changes at [] bytes = bytes
+with_changes at (c ∷ more) bytes = take (c.start - at) bytes ++ c.text ++ with_changes c.end more (drop (c.end - at) bytes)
 
 -- the text of these bytes and tokens, which reads as the program, edited by the choice
 abbrev pub edited : List ℕ → List Token → Program → Choice → List ℕ
-edited bytes ts p choice = changed 0 (changes ts p choice.puts) bytes
+edited bytes ts p choice = with_changes 0 (changes ts p choice.puts) bytes
 
 -- each token begins where the one before it ends or behind that, from an offset on
 abbrev pub stand_in_order : ℕ → List Token → Bool

@@ -93,7 +93,7 @@ abbrev pub step_of : Pattern → List Token → Step
 step_of p ts = record { deed = deed_of p ts; start = start_at ts 0; end = end_at ts (last_of p) }
 
 -- the step is read off tokens that match a pattern
-pub record Spells (s : Step) (ts : List Token) : Type 0 where
+pub record IsStepOf (s : Step) (ts : List Token) : Type 0 where
   pub pattern : Pattern
   pub matched : matches (wants pattern) ts ≡ true
   pub read : s ≡ step_of pattern ts
@@ -101,7 +101,7 @@ pub record Spells (s : Step) (ts : List Token) : Type 0 where
 -- the tokens are those of the steps, one step after another
 pub data Steps : List Step → List Token → Type 0 where
   none : Steps [] []
-  more : (s : Step) (ss : List Step) (front rest : List Token) → Spells s front → Steps ss rest → Steps (s ∷ ss) (front ++ rest)
+  more : (s : Step) (ss : List Step) (front rest : List Token) → IsStepOf s front → Steps ss rest → Steps (s ∷ ss) (front ++ rest)
 
 abbrev pub draft_of : List Step → List Token → List Token → Draft
 draft_of ss head tail = record {
@@ -137,9 +137,9 @@ abbrev pub candidate_at : List Token → Option Pattern
 candidate_at [] = None
 candidate_at (t ∷ ts) = candidate t.kind
 
-abbrev pub begins : List Token → Pattern → Bool
-begins ts p = matches (wants p) (take (length (wants p)) ts)
+abbrev pub has_pattern : List Token → Pattern → Bool
+has_pattern ts p = matches (wants p) (take (length (wants p)) ts)
 
 -- the pattern of the step that the tokens begin with
 abbrev pub pattern_at : List Token → Option Pattern
-pattern_at ts = option_and_then (λ p. if begins ts p then Some p else None) (candidate_at ts)
+pattern_at ts = option_and_then (λ p. if has_pattern ts p then Some p else None) (candidate_at ts)

@@ -1,14 +1,15 @@
 pub mod Access
+pub mod Acting
 pub mod Command
 pub mod Edit
 pub mod Form
+pub mod Gathered
 pub mod Names
 pub mod Notes
 pub mod Outcome
 pub mod Own
 pub mod Prefix
 pub mod Progress
-pub mod Reading
 pub mod Reads
 pub mod Refusal
 pub mod Repair

@@ -79,8 +79,8 @@ is_ascending (x ∷ []) = true
 is_ascending (x ∷ y ∷ xs) = nat_lt x y && is_ascending (y ∷ xs)
 
 -- each variable is freed exactly once and not used behind that, and each gap's frees ascend by variable
-abbrev pub fits : Program → Bool
-fits p = is_freed_once p && is_unused_behind (pieces_of p) && list_all (λ g. is_ascending (freed g)) (gaps_of p)
+abbrev pub frees_fit : Program → Bool
+frees_fit p = is_freed_once p && is_unused_behind (pieces_of p) && list_all (λ g. is_ascending (freed g)) (gaps_of p)
 
 -- the program's own frees, as puts
 abbrev pub own_puts : Program → List Put

@@ -5,7 +5,7 @@ use Rattle.c_lexer.specs.Scan.{HasTokens}
 use Rattle.c_tree.specs.declared.program.Program.{Program}
 use Rattle.memfix_engine.specs.declared.draft.Draft.{Draft}
 use Rattle.memfix_engine.specs.Form.{IsForm}
-use Rattle.memfix_engine.specs.Reading.{program_of}
+use Rattle.memfix_engine.specs.Gathered.{program_of}
 
 -- the tokens are of the first form, and the program is that of their draft
 pub record IsFirst (ts : List Token) (p : Program) : Type 0 where

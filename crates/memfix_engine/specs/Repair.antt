@@ -10,14 +10,14 @@ use Rattle.c_tree.specs.Alike.{IsAlike}
 use Rattle.c_meaning.specs.Safe.{Safe, Same}
 use Rattle.memfix_engine.specs.Reads.{Reads}
 use Rattle.memfix_engine.specs.Edit.{edited}
-use Rattle.memfix_engine.specs.Own.{put_of, own_puts, fits}
+use Rattle.memfix_engine.specs.Own.{put_of, own_puts, frees_fit}
 
 -- the variables but the result's nameless slot, each freed in the gap before the return
 abbrev pub return_puts : Program → List Put
 return_puts p = map (put_of (p.gaps - 2)) (range_with_len 0 (length p.vars - 1))
 
 abbrev pub choice_of : Program → Choice
-choice_of p = record { puts = if fits p then own_puts p else return_puts p }
+choice_of p = record { puts = if frees_fit p then own_puts p else return_puts p }
 
 -- w is the repaired text of b: b reads as p, w is b with the choice's frees, and w reads as q, which
 -- is p filled by that choice, is safe, and does the same as p; where p's own frees fit, w is b
@@ -30,4 +30,4 @@ pub record Repairs (b w : List ℕ) : Type 0 where
   pub alike : IsAlike filled (fill program (choice_of program))
   pub safe : Safe filled
   pub same : Same program filled
-  pub kept : fits program ≡ true → w ≡ b
+  pub kept : frees_fit program ≡ true → w ≡ b

@@ -3,7 +3,7 @@
 ghost use Rattle.std.specs.Prelude.{◌≡◌, IfOk, IsTrue, map, filter};
 ghost use Rattle.std.specs.List.{flat_map};
 ghost use Rattle.c_tree.specs.Fill.{IsAscending, ascends};
-ghost use Rattle.memfix_engine.specs.Edit.{free_text, AreInOrder, is_put, are_put, is_within, blanked, blanks, name_of, written, gap_changes, piece_changes, last_changes, block_changes, changes, changed, edited};
+ghost use Rattle.memfix_engine.specs.Edit.{free_text, AreInOrder, is_put, are_put, is_within, blanked, blanks, name_of, written, gap_changes, piece_changes, last_changes, block_changes, changes, with_changes, edited};
 
 use c_lexer::Token;
 use c_tree::{Block, Choice, Expr, Free, Gap, Piece, Program, Put, VarDef, puts_of};
@@ -219,8 +219,8 @@ fn changes(
 }
 
 /// The bytes with the changes made. All other bytes stay.
-fn changed(alloc: Global, changes: &[Change], bytes: &[u8]) -> Result<Vec<u8>, AllocError>
-    ensures { IfOk result (λ w. w.items ≡ changed 0 changes.now bytes.now) }
+fn with_changes(alloc: Global, changes: &[Change], bytes: &[u8]) -> Result<Vec<u8>, AllocError>
+    ensures { IfOk result (λ w. w.items ≡ with_changes 0 changes.now bytes.now) }
 {
     let mut text = Vec::new(alloc);
     let mut rest = bytes;
@@ -252,5 +252,5 @@ pub(crate) fn edit(
     ensures { IfOk result (λ w. w.items ≡ edited bytes.now tokens.now program.now choice.now) }
 {
     let list = changes(alloc, tokens, program, choice.puts.as_slice())?;
-    changed(alloc, list.as_slice(), bytes)
+    with_changes(alloc, list.as_slice(), bytes)
 }

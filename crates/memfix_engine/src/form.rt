@@ -1,9 +1,10 @@
 //! Tokens of the first form, read as a draft.
-ghost use Rattle.std.specs.Prelude.{◌≡◌, ◌<◌, ◌≤◌, length, take, drop, true, None, Some, IfOk, IfSome, IfNone};
-ghost use Rattle.std.specs.List.{list_all, zip};
+ghost use Rattle.std.specs.Prelude.{◌≡◌, ◌<◌, ◌≤◌, length, take, drop, true, [], ◌∷◌, ◌++◌, None, Some, IfOk, IfSome, IfNone, OnOk};
+ghost use Rattle.std.specs.List.{filter, list_all, zip};
 ghost use Rattle.c_lexer.specs.declared.token.Token.{Token};
 ghost use Rattle.memfix_engine.specs.declared.draft.Draft.{Draft};
-ghost use Rattle.memfix_engine.specs.Form.{fits, matches, head_pattern, tail_pattern, wants, start_at, end_at, word_at, word_of, number_of, is_main, number_at, deed_of, last_of, step_of, candidate, begins, pattern_at, draft_of, Spells, Steps, IsForm};
+ghost use Rattle.memfix_engine.specs.Form.{fits, matches, head_pattern, tail_pattern, wants, start_at, end_at, word_at, word_of, number_of, is_main, number_at, deed_of, last_of, step_of, candidate, has_pattern, pattern_at, draft_of, IsStepOf, IsForm};
+ghost use Rattle.memfix_engine.specs.Acting.{acts, ActingSteps, IsActingForm};
 
 use crate::draft::{Deed, Draft, Make, Pattern, Release, Show, Step, Store, Want};
 use crate::kinds::{
@@ -190,8 +191,8 @@ pub(crate) fn candidate(kind: &Kind) -> Option<Pattern>
     }
 }
 
-fn begins(tokens: &[Token], pattern: Pattern) -> bool
-    ensures { result ≡ begins tokens.now pattern }
+fn has_pattern(tokens: &[Token], pattern: Pattern) -> bool
+    ensures { result ≡ has_pattern tokens.now pattern }
 {
     let wants = wants(pattern);
     tokens.len() >= wants.len() && matches(wants, &tokens[..wants.len()])
@@ -201,10 +202,10 @@ fn pattern_at(tokens: &[Token]) -> Option<Pattern>
     ensures value { result ≡ pattern_at tokens.now }
     ensures within { IfSome result (λ p. length (wants p) ≤ length tokens.now) }
     ensures some { IfSome result (λ p. 0 < length (wants p)) }
-    ensures begun { IfSome result (λ p. begins tokens.now p ≡ true) }
+    ensures begun { IfSome result (λ p. has_pattern tokens.now p ≡ true) }
 {
     let pattern = candidate(&tokens.first()?.kind)?;
-    if begins(tokens, pattern) {
+    if has_pattern(tokens, pattern) {
         Some(pattern)
     } else {
         None
@@ -261,7 +262,7 @@ fn step_of(alloc: Global, pattern: Pattern, tokens: &[Token]) -> Result<Step, Al
 fn next_step(alloc: Global, tokens: &[Token]) -> Result<Option<(Step, usize)>, AllocError>
     ensures within { IfOk result (λ o. IfSome o (λ found. found.1 ≤ length tokens.now)) }
     ensures some { IfOk result (λ o. IfSome o (λ found. 0 < found.1)) }
-    ensures step { IfOk result (λ o. IfSome o (λ found. Spells found.0 (take found.1 tokens.now))) }
+    ensures step { IfOk result (λ o. IfSome o (λ found. IsStepOf found.0 (take found.1 tokens.now))) }
     ensures none { IfOk result (λ o. IfNone o (pattern_at tokens.now ≡ None)) }
 {
     match pattern_at(tokens) {
@@ -274,16 +275,36 @@ fn next_step(alloc: Global, tokens: &[Token]) -> Result<Option<(Step, usize)>, A
     }
 }
 
-/// The steps that the tokens begin with, as many as there are, and how many tokens they take.
+fn acts(step: &Step) -> bool
+    ensures { result ≡ acts step.now }
+{
+    match step.deed {
+        Deed::Make(_) | Deed::Store(_) | Deed::Show(_) | Deed::Release(_) => true,
+        Deed::Empty => false,
+    }
+}
+
+/// Adds a step, unless it is a lone semicolon.
+fn push_acting(steps: &mut Seq<Step>, step: Step) -> Result<(), AllocError>
+    ensures { OnOk result (steps.new ≡ steps.old ++ filter acts (step ∷ [])) }
+{
+    if acts(&step) {
+        steps.push(step)?;
+    }
+    Ok(())
+}
+
+/// The steps that the tokens begin with, as many as there are but for lone semicolons, and how many tokens they take
+/// with these.
 fn steps_of(alloc: Global, tokens: &[Token]) -> Result<(Seq<Step>, usize), AllocError>
     ensures within { IfOk result (λ found. found.1 ≤ length tokens.now) }
-    ensures steps { IfOk result (λ found. Steps found.0 (take found.1 tokens.now)) }
+    ensures steps { IfOk result (λ found. ActingSteps found.0 (take found.1 tokens.now)) }
     ensures all { IfOk result (λ found. pattern_at (drop found.1 tokens.now) ≡ None) }
 {
     let mut steps = Seq::new(alloc);
     let mut at = 0;
     while let Some((step, width)) = next_step(alloc, tokens.split_at(at).1)? {
-        steps.push(step)?;
+        push_acting(&mut steps, step)?;
         at += width;
     }
     Ok((steps, at))
@@ -305,9 +326,9 @@ fn draft_from(steps: Seq<Step>, head: &[Token], tail: &[Token]) -> Draft
     }
 }
 
-/// The draft of tokens of the first form, `None` for all others.
+/// The draft of tokens of the first form without its lone semicolons, `None` for all other tokens.
 pub(crate) fn draft_of(alloc: Global, tokens: &[Token]) -> Result<Option<Draft>, AllocError>
-    ensures found { IfOk result (λ o. IfSome o (IsForm tokens.now)) }
+    ensures found { IfOk result (λ o. IfSome o (IsActingForm tokens.now)) }
     ensures none { IfOk result (λ o. IfNone o ((d : Draft) → IsForm tokens.now d → ⊥)) }
 {
     if tokens.len() < HEAD.len() {

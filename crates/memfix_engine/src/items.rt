@@ -1,6 +1,6 @@
 //! The items of a program of the first form.
 ghost use Rattle.std.specs.Prelude.{◌≡◌, ◌∷◌, [], IfOk};
-ghost use Rattle.memfix_engine.specs.Reading.{stored, shown, declared};
+ghost use Rattle.memfix_engine.specs.Gathered.{stored, shown, declared};
 
 use crate::draft::{Make, Show, Store};
 use c_tree::{Call, Declr, Expr, Item, Op, Right, Simple, Size};

@@ -5,6 +5,7 @@ mod command;
 mod draft;
 mod edit;
 mod form;
+mod gathered;
 mod items;
 mod kinds;
 mod names;
@@ -12,7 +13,6 @@ mod notes;
 mod outcome;
 mod own;
 mod prefix;
-mod reading;
 mod refusal;
 mod repairs;
 mod source;
@@ -21,6 +21,3 @@ pub use command::memfix;
 pub use refusal::{RepairRefusal, SourceRefusal};
 pub use repairs::{SOURCE_LIMIT, repair};
 pub use source::read_source;
-
-#[cfg(test)]
-mod tests;

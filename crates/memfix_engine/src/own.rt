@@ -5,7 +5,7 @@ ghost use Rattle.std.specs.List.{flat_map, list_all};
 ghost use Rattle.c_tree.specs.declared.program.Block.{out-Block};
 ghost use Rattle.c_tree.specs.declared.program.Item.{out-Item};
 ghost use Rattle.memfix_engine.specs.declared.own.Access.TheVariants.{Free, Use};
-ghost use Rattle.memfix_engine.specs.Own.{variable, pointed, used_by_call, used_in, used, freed, pieces_of, gaps_of_block, gaps_of, is_freed_once, is_unused_behind, is_ascending, fits, own_puts};
+ghost use Rattle.memfix_engine.specs.Own.{variable, pointed, used_by_call, used_in, used, freed, pieces_of, gaps_of_block, gaps_of, is_freed_once, is_unused_behind, is_ascending, frees_fit, own_puts};
 ghost use Rattle.memfix_engine.specs.Access.{gap_frees, puts_of_frees, counts_of, accesses, is_used, is_last, are_last, marks_of};
 
 use crate::items::one;
@@ -301,8 +301,8 @@ fn is_unused_behind(alloc: Global, program: &Program) -> Result<bool, AllocError
 }
 
 /// Whether each variable is freed once and not used behind that, and the frees of each gap ascend.
-pub(crate) fn fits(alloc: Global, program: &Program) -> Result<bool, AllocError>
-    ensures { IfOk result (λ b. b ≡ fits program.now) }
+pub(crate) fn frees_fit(alloc: Global, program: &Program) -> Result<bool, AllocError>
+    ensures { IfOk result (λ b. b ≡ frees_fit program.now) }
 {
     let frees = all_frees(alloc, program)?;
     if !is_freed_once(alloc, program, frees.as_slice())? {

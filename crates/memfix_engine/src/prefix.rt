@@ -178,7 +178,7 @@ impl Progress {
 
 /// The start of the first token such that no text of the first form begins with the tokens up to it; the
 /// end of the text counts as a last token.
-pub(crate) fn place_of(alloc: Global, tokens: &[Token], size: usize) -> Result<usize, AllocError>
+pub(crate) fn stop_of(alloc: Global, tokens: &[Token], size: usize) -> Result<usize, AllocError>
     ensures value { IfOk result (λ at. at ≡ place_from nothing_begun size tokens.now) }
     ensures place { ((p : Program) → IsFirst tokens.now p → ⊥) → IfOk result (IsPlace size tokens.now) }
 {

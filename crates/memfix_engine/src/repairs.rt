@@ -8,7 +8,7 @@ ghost use Rattle.memfix_engine.specs.Refusal.{RefusesRepair, source_limit};
 ghost use Rattle.memfix_engine.specs.Repair.{Repairs, return_puts, choice_of};
 
 use crate::edit::edit;
-use crate::own::{fits, own_puts};
+use crate::own::{frees_fit, own_puts};
 use crate::refusal::{RepairRefusal, SourceRefusal};
 use crate::source::{SourceText, read_text};
 use c_tree::{Choice, Program, Put};
@@ -38,7 +38,7 @@ fn return_puts(alloc: Global, program: &Program) -> Result<Seq<Put>, AllocError>
 fn chosen_puts(alloc: Global, program: &Program) -> Result<Seq<Put>, AllocError>
     ensures { IfOk result (λ l. l ≡ (choice_of program.now).puts) }
 {
-    if fits(alloc, program)? {
+    if frees_fit(alloc, program)? {
         own_puts(alloc, program)
     } else {
         return_puts(alloc, program)

@@ -8,8 +8,8 @@ ghost use Rattle.memfix_engine.specs.Refusal.{RefusesSource};
 ghost use Rattle.memfix_engine.specs.Source.{IsSource};
 
 use crate::form::draft_of;
-use crate::prefix::place_of;
-use crate::reading::program_of;
+use crate::gathered::program_of;
+use crate::prefix::stop_of;
 use crate::refusal::SourceRefusal;
 use c_lexer::{LexRefusal, Token, Tokens, lex};
 use c_tree::Program;
@@ -53,7 +53,7 @@ pub(crate) fn read_text(alloc: Global, bytes: &[u8]) -> Result<SourceText, Sourc
     match first_program(alloc, tokens.list.as_slice())? {
         Some(program) => Ok(SourceText { tokens, program }),
         None => {
-            let at = place_of(alloc, tokens.list.as_slice(), tokens.size)?;
+            let at = stop_of(alloc, tokens.list.as_slice(), tokens.size)?;
             Err(SourceRefusal::NotBuilt(at))
         }
     }

@@ -1,3 +1,4 @@
+// Reads and writes that fail in mid-stream, the limit, and the standard streams over readers and writers in memory.
 use super::*;
 use std::io;
 use std::io::{ErrorKind, Read, Write};

@@ -1,3 +1,4 @@
+// A list over `Vec` that contracts see as the list of its elements.
 ghost use Rattle.std.specs.Prelude.{◌≡◌, [], ◌∷◌, ◌++◌, ◌<◌, length, slice_get, slice_set, remove, IfOk, MatchOption, OnOk, OnErr, OnSome, ◌↔◌, IsTrue};
 ghost use Rattle.std.specs.Option.{option_copied};
 ghost use Rattle.std.specs.Borrow.{sem, Lends};

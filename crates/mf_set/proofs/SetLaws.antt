@@ -40,22 +40,6 @@ numbers_of-meet us vs ws h =
     (λ n. h n ∙ ap (λ b. b && has_bit vs n) (sym (has-numbers_of us n)) ∙ ap (λ b. has (numbers_of us) n && b) (sym (has-numbers_of vs n)) ∙ sym (has-meet (numbers_of us) (numbers_of vs) n))
 
 -- ---- the invariant
-kept : (room : ℕ) (us ws : List ℕ) → AreWords room us → length ws ≡ length us → ((n : ℕ) → has_bit ws n ≡ true → n < room) → AreWords room ws
-kept room us ws h l below = record { fits = h.fits; count = l ∙ h.count; below = below }
-
-pub AreWords-insert : (room : ℕ) (us ws : List ℕ) (k : ℕ) → AreWords room us → k < room → length ws ≡ length us → ((n : ℕ) → has_bit ws n ≡ (eqb k n || has_bit us n)) → AreWords room ws
-AreWords-insert room us ws k h l e bits =
-    kept room us ws h e (λ n is. ⊎_elim (λ same. let at : k ≡ n = eqb-true k n same in omega arith) (λ old. h.below n old) (or_cases (eqb k n) (has_bit us n) (sym (bits n) ∙ is)))
-
-pub AreWords-remove : (room : ℕ) (us ws : List ℕ) (k : ℕ) → AreWords room us → length ws ≡ length us → ((n : ℕ) → has_bit ws n ≡ (has_bit us n && not (eqb n k))) → AreWords room ws
-AreWords-remove room us ws k h e bits = kept room us ws h e (λ n is. h.below n (and_parts (has_bit us n) (not (eqb n k)) (sym (bits n) ∙ is)).0)
-
-pub AreWords-union : (room other : ℕ) (us vs ws : List ℕ) → AreWords room us → AreWords other vs → other ≡ room → length ws ≡ length us → ((n : ℕ) → has_bit ws n ≡ (has_bit us n || has_bit vs n)) → AreWords room ws
-AreWords-union room other us vs ws h g same e bits =
-    kept room us ws h e (λ n is. ⊎_elim (λ old. h.below n old) (λ new. let inside : n < other = g.below n new in omega arith) (or_cases (has_bit us n) (has_bit vs n) (sym (bits n) ∙ is)))
-
-pub AreWords-meet : (room : ℕ) (us vs ws : List ℕ) → AreWords room us → length ws ≡ length us → ((n : ℕ) → has_bit ws n ≡ (has_bit us n && has_bit vs n)) → AreWords room ws
-AreWords-meet room us vs ws h e bits = kept room us ws h e (λ n is. h.below n (and_parts (has_bit us n) (has_bit vs n) (sym (bits n) ∙ is)).0)
 
 -- ---- the empty set
 no_bit : (count n : ℕ) → has_bit (replicate count 0) n ≡ false

@@ -1,6 +1,6 @@
 -- Laws of sets in words: the numbers of the words are those whose bits are set, and what a write to a word leaves.
 use Rattle.std.proofs.Common.{◌≡◌, ◌≢◌, ◌↔◌, ℕ, zero, suc, ◌+◌, ◌-◌, ◌*◌, ◌/◌, ◌%◌, ◌^◌, ◌<◌, ◌≤◌, min, max, Bool, true, false, not, ◌&&◌, ◌||◌, ⊎_elim, List, length, get_or, set, eqb, leb, refl, sym, ap, ◌∙◌, subst, arith}
-use Rattle.std.proofs.lemmas.Bool.{eqb-true, true≢false, false≢true, eq-eqb, ne_eqb, cases_eq, cases_lt, or_left, or_right, le-leb, lt-leb}
+use Rattle.std.proofs.lemmas.Bool.{true≢false, false≢true, eq-eqb, ne_eqb, cases_eq, cases_lt, or_left, or_right, le-leb, lt-leb}
 use Rattle.std.proofs.lemmas.Bool.Decides.{nat_tests}
 use Rattle.std.proofs.lemmas.List.{get_or-set_same, get_or-set_other, get_or_past, ext_get_or}
 use Rattle.std.proofs.lemmas.Nat.Bits.{bit_at_and, bit_at_or, bit_at-zero, bit_at-lt, bit_at_not, bit_at-trailing_zeros, bit_at_set_same, bit_at_set_other, ones_shl, bit_at_mask_inside, bit_at_mask_below, bit_at_clear_same, bit_at_clear_other}
@@ -122,20 +122,6 @@ pub record Combines (f : ℕ → ℕ → ℕ) (us vs ws : List ℕ) (i : ℕ) : 
   pub done : (k : ℕ) → k < i → get_or ws k 0 ≡ f (get_or us k 0) (get_or vs k 0)
   pub rest : (k : ℕ) → i ≤ k → get_or ws k 0 ≡ get_or us k 0
 
-pub Combines-none : (f : ℕ → ℕ → ℕ) (us vs : List ℕ) → Combines f us vs us 0
-Combines-none f us vs = record { done = λ k l. absurd (omega arith); rest = λ k l. refl }
-
-pub Combines-more : (f : ℕ → ℕ → ℕ) (us vs ws : List ℕ) (i : ℕ) → i < length ws → Combines f us vs ws i → Combines f us vs (set ws i (f (get_or ws i 0) (get_or vs i 0))) (i + 1)
-Combines-more f us vs ws i l h = record {
-  done = λ k m.
-      ⊎_elim
-      (λ e. subst (λ q. get_or (set ws i (f (get_or ws i 0) (get_or vs i 0))) q 0 ≡ f (get_or us q 0) (get_or vs q 0)) (sym e)
-      (get_or-set_same ws i (f (get_or ws i 0) (get_or vs i 0)) 0 l ∙ ap (λ v. f v (get_or vs i 0)) (h.rest i (omega arith))))
-      (λ e. get_or-set_other ws i k (f (get_or ws i 0) (get_or vs i 0)) 0 e ∙ h.done k (omega arith))
-      (cases_eq k i);
-  rest = λ k m. let other : k ≢ i = omega arith in get_or-set_other ws i k (f (get_or ws i 0) (get_or vs i 0)) 0 other ∙ h.rest k (omega arith);
-}
-
 zero_word : (j : ℕ) → bit_of 0 j ≡ false
 zero_word j = ap (λ v. eqb v 1) (bit_at-zero j)
 
@@ -161,34 +147,6 @@ has_bit-meet = has_bit-combined bit_and (λ a b. a && b) one_at_and refl
 -- whether one of the first i words is another behind f
 abbrev pub Changes : (ℕ → ℕ → ℕ) → List ℕ → List ℕ → Bool → ℕ → Type 0
 Changes f us vs changed i = (changed ≡ false) ↔ ((k : ℕ) → k < i → f (get_or us k 0) (get_or vs k 0) ≡ get_or us k 0)
-
-pub Changes-none : (f : ℕ → ℕ → ℕ) (us vs : List ℕ) → Changes f us vs false 0
-Changes-none f us vs = (λ _ k l. absurd (omega arith), λ _. refl)
-
-pub Changes-more : (f : ℕ → ℕ → ℕ) (us vs ws : List ℕ) (changed : Bool) (i : ℕ) → Combines f us vs ws i → Changes f us vs changed i
-    → Changes f us vs (changed || not (eqb (f (get_or ws i 0) (get_or vs i 0)) (get_or ws i 0))) (i + 1)
-Changes-more f us vs ws changed i h c =
-    rw (h.rest i (omega arith)) (
-      λ kept k l.
-          let parts = or_false_parts changed (not (eqb (f (get_or us i 0) (get_or vs i 0)) (get_or us i 0))) kept in
-          ⊎_elim
-          (λ e. subst (λ q. f (get_or us q 0) (get_or vs q 0) ≡ get_or us q 0) (sym e) (eqb-true _ _ (not_false _ parts.1)))
-          (λ e. c.0 parts.0 k (omega arith))
-          (cases_eq k i),
-      λ all. both_false _ _ (c.1 (λ k l. all k (omega arith))) (ap not (eq-eqb _ _ (all i (omega arith)))),
-    )
-  where
-    or_false_parts : (a b : Bool) → (a || b) ≡ false → (a ≡ false) × (b ≡ false)
-    or_false_parts true b e = absurd (true≢false e)
-    or_false_parts false b e = (refl, e)
-
-    not_false : (b : Bool) → not b ≡ false → b ≡ true
-    not_false true e = refl
-    not_false false e = absurd (true≢false e)
-
-    both_false : (a b : Bool) → a ≡ false → b ≡ false → (a || b) ≡ false
-    both_false true b e g = absurd (true≢false e)
-    both_false false b e g = g
 
 pub Changes-all : (f : ℕ → ℕ → ℕ) (us vs ws : List ℕ) (changed : Bool) (i : ℕ) → length ws ≡ length us → length us ≤ i → Combines f us vs ws i → Changes f us vs changed i → (changed ≡ false) ↔ (ws ≡ us)
 Changes-all f us vs ws changed i same all h c = (

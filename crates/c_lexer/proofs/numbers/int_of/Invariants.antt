@@ -1,6 +1,6 @@
 use Rattle.std.proofs.Common.{◌≡◌, ◌≤◌, drop}
 use Rattle.std.specs.Prelude.{fold}
-use Rattle.c_lexer.specs.Pieces.{with_digit, decimal_value, greatest}
+use Rattle.c_lexer.specs.Elements.{with_digit, decimal_value, greatest}
 use Rattle.c_lexer.proofs.numbers.int_of.Given as goal
 
 abbrev pub invariant-loop-digit : goal.invariant-loop-digit

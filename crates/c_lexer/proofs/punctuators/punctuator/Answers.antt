@@ -17,8 +17,8 @@ loop-n-preserved c =
       longer = λ m above within. none_from c.args.rest.now c.loop-n.n here c.loop-n.invariant.longer m (omega arith) within;
     }
 
-pub returns-clause-piece : goal.returns-clause-piece
-returns-clause-piece c = (
+pub returns-clause-element : goal.returns-clause-element
+returns-clause-element c = (
   refl,
   refl,
   λ m within. none_from c.args.rest.now 0 none_of_nothing (λ k above inside. c.loop-n.invariant.longer k (omega arith) inside) m (omega arith) within,

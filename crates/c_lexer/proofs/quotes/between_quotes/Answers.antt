@@ -1,7 +1,7 @@
 use Rattle.std.proofs.Common.{◌≡◌, ◌+◌, drop, length, sym, ◌∙◌, ap, subst, arith, length-drop}
 use Rattle.std.proofs.lemmas.List.{take_rest}
-use Rattle.c_lexer.specs.declared.piece.Next.TheVariants.{Plain, Escape}
-use Rattle.c_lexer.specs.Pieces.{next_of}
+use Rattle.c_lexer.specs.declared.element.Next.TheVariants.{Plain, Escape}
+use Rattle.c_lexer.specs.Elements.{next_of}
 use Rattle.c_lexer.specs.Opening.{Holds}
 use Rattle.c_lexer.proofs.Quoted.{Continues, plain_more, escape_more, at_end, end_from, leaves_from}
 use Rattle.c_lexer.proofs.quotes.between_quotes.Goals as goal

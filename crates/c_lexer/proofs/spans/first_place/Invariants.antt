@@ -1,6 +1,6 @@
 use Rattle.std.proofs.Common.{◌≡◌, drop}
 use Rattle.c_lexer.specs.Bytes.{stops}
-use Rattle.c_lexer.specs.Pieces.{first_place}
+use Rattle.c_lexer.specs.Elements.{first_place}
 use Rattle.c_lexer.proofs.Places.{ahead}
 use Rattle.c_lexer.proofs.spans.first_place.Given as goal
 

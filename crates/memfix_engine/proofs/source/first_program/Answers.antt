@@ -2,18 +2,20 @@
 use Rattle.std.proofs.Common.{rules}
 use Rattle.memfix_engine.specs.declared.draft.Draft.{Draft}
 use Rattle.memfix_engine.specs.Form.{IsForm}
+use Rattle.memfix_engine.specs.Acting.{IsActingForm}
+use Rattle.memfix_engine.proofs.ActingLaws.{acting_answer}
 use Rattle.memfix_engine.proofs.ReadsLemmas.{not_first_by_form, first_found, first_absent}
 use Rattle.memfix_engine.proofs.source.first_program.Goals as goal
 
 pub returns-in-Some-clause-found : goal.returns-in-Some-clause-found
 returns-in-Some-clause-found c =
-    let form : IsForm c.args.tokens.now c.in-Some.draft = search rules in
-    first_found c.args.tokens.now c.in-Some.draft form c.program_of.result c.program_of.ensures
+    let acting : IsActingForm c.args.tokens.now c.in-Some.draft = search rules in
+    first_found c.args.tokens.now acting.whole acting.form c.program_of.result (acting_answer _ _ acting c.program_of.result c.program_of.ensures)
 
 pub returns-in-Some-clause-none : goal.returns-in-Some-clause-none
 returns-in-Some-clause-none c =
-    let form : IsForm c.args.tokens.now c.in-Some.draft = search rules in
-    first_absent c.args.tokens.now c.in-Some.draft form c.program_of.result c.program_of.ensures
+    let acting : IsActingForm c.args.tokens.now c.in-Some.draft = search rules in
+    first_absent c.args.tokens.now acting.whole acting.form c.program_of.result (acting_answer _ _ acting c.program_of.result c.program_of.ensures)
 
 pub returns-in-None-clause-none : goal.returns-in-None-clause-none
 returns-in-None-clause-none c =

@@ -1,12 +1,12 @@
-// What each token changes of the nest.
+// The role of each token in the nest.
 ghost use Rattle.std.specs.Prelude.{◌≡◌, codes};
-ghost use Rattle.c_lexer.specs.Nest.{is_key, is_word, next_is, punctuator_mark, key_mark, mark_of};
+ghost use Rattle.c_lexer.specs.Nest.{is_key, is_word, next_is, punctuator_role, key_role, role_of};
 
 use crate::{Kind, Token};
 
-/// What a token changes of the nest.
+/// What a token does to the nest.
 #[derive(Clone, Copy, Debug, PartialEq, Eq)]
-pub enum Mark {
+pub enum Role {
     Opens,
     Closes,
     Ends,
@@ -79,22 +79,22 @@ fn if_next(rest: &[Token]) -> bool
     }
 }
 
-fn punctuator_mark(number: u16) -> Mark
-    ensures { result ≡ punctuator_mark number }
+fn punctuator_role(number: u16) -> Role
+    ensures { result ≡ punctuator_role number }
 {
     match number {
-        OPEN_BRACE => Mark::Opens,
-        CLOSE_BRACE => Mark::Closes,
-        SEMICOLON => Mark::Ends,
-        OPEN_PARENTHESIS | OPEN_BRACKET => Mark::Bracket,
-        CLOSE_PARENTHESIS | CLOSE_BRACKET => Mark::CloseBracket,
-        COMMA => Mark::Nothing,
-        _ => Mark::Part,
+        OPEN_BRACE => Role::Opens,
+        CLOSE_BRACE => Role::Closes,
+        SEMICOLON => Role::Ends,
+        OPEN_PARENTHESIS | OPEN_BRACKET => Role::Bracket,
+        CLOSE_PARENTHESIS | CLOSE_BRACKET => Role::CloseBracket,
+        COMMA => Role::Nothing,
+        _ => Role::Part,
     }
 }
 
-fn key_mark(after_else: bool, number: u16, before_if: bool) -> Mark
-    ensures { result ≡ key_mark after_else number before_if }
+fn key_role(after_else: bool, number: u16, before_if: bool) -> Role
+    ensures { result ≡ key_role after_else number before_if }
 {
     let counts = match number {
         WHILE | FOR => true,
@@ -102,16 +102,16 @@ fn key_mark(after_else: bool, number: u16, before_if: bool) -> Mark
         ELSE => !before_if,
         _ => false,
     };
-    if counts { Mark::Counts } else { Mark::Nothing }
+    if counts { Role::Counts } else { Role::Nothing }
 }
 
-/// What the token changes, directly behind `else` or not, and before the rest.
-pub fn mark_of(after_else: bool, kind: &Kind, rest: &[Token]) -> Mark
-    ensures { result ≡ mark_of after_else kind.now rest.now }
+/// What the token does, directly behind `else` or not, and before the rest.
+pub fn role_of(after_else: bool, kind: &Kind, rest: &[Token]) -> Role
+    ensures { result ≡ role_of after_else kind.now rest.now }
 {
     match kind {
-        Kind::Punct(number) => punctuator_mark(*number),
-        Kind::Key(number) => key_mark(after_else, *number, if_next(rest)),
-        _ => Mark::Nothing,
+        Kind::Punct(number) => punctuator_role(*number),
+        Kind::Key(number) => key_role(after_else, *number, if_next(rest)),
+        _ => Role::Nothing,
     }
 }

@@ -4,7 +4,7 @@ use Rattle.std.proofs.lemmas.Grind.{common_steps}
 use Rattle.memfix_engine.specs.Prefix.{IsPlace}
 use Rattle.memfix_engine.specs.Progress.{nothing_begun, place_from}
 use Rattle.memfix_engine.proofs.PlaceLemmas.{place_is}
-use Rattle.memfix_engine.proofs.prefix.place_of.Goals as goal
+use Rattle.memfix_engine.proofs.prefix.stop_of.Goals as goal
 
 pub returns-in-None-clause-place : goal.returns-in-None-clause-place
 returns-in-None-clause-place c = λ never.

@@ -1,5 +1,5 @@
 // What the command writes and answers, and what a repair gives.
-use super::*;
+use memfix_engine::{SOURCE_LIMIT, memfix, read_source, repair};
 use mf_io::{MemSink, MemSource};
 use std::alloc::{AllocError, Global};
 use std::test::Fail;

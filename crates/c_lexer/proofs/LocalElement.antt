@@ -1,20 +1,20 @@
--- The piece at the front of a text is the same whatever follows the front, where a blank does.
+-- The element at the front of a text is the same whatever follows the front, where a blank does.
 use Rattle.std.proofs.Common.{◌≡◌, ℕ, zero, suc, ◌+◌, ◌<◌, ◌≤◌, Bool, true, false, ◌&&◌, cond, List, [], ◌∷◌, ◌++◌, Option, Some, None, length, take, drop, nat_eq, sym, refl, ap, ◌∙◌, subst, ⊎_elim, arith, add-one, length-append, length-drop}
 use Rattle.std.specs.Prelude.{codes, ◌⊎◌, ◌==◌, ℤ}
 use Rattle.std.specs.List.{prefix_len}
 use Rattle.std.specs.Cmp.Lexicographic.{pointwise}
 use Rattle.std.proofs.lemmas.Bool.{and_parts, and_left, and_right, or_cases, or_from, cond-true, cond-false, cases_Bool, eqb-true, ne_eqb, false_from_ne_true, false≢true}
-use Rattle.c_lexer.specs.declared.piece.Class.{Class}
-use Rattle.c_lexer.specs.declared.piece.Class.TheVariants as class
-use Rattle.c_lexer.specs.declared.piece.Stop.TheVariants as stop
-use Rattle.c_lexer.specs.declared.piece.Piece.{Piece}
-use Rattle.c_lexer.specs.declared.piece.Piece.TheVariants as piece
-use Rattle.c_lexer.specs.declared.piece.Quote.TheVariants.{Double, Single}
+use Rattle.c_lexer.specs.declared.element.Class.{Class}
+use Rattle.c_lexer.specs.declared.element.Class.TheVariants as class
+use Rattle.c_lexer.specs.declared.element.Stop.TheVariants as stop
+use Rattle.c_lexer.specs.declared.element.Element.{Element}
+use Rattle.c_lexer.specs.declared.element.Element.TheVariants as element
+use Rattle.c_lexer.specs.declared.element.Quote.TheVariants.{Double, Single}
 use Rattle.c_lexer.specs.declared.token.Kind.{Kind}
 use Rattle.c_lexer.specs.declared.token.Kind.TheVariants as kind
 use Rattle.c_lexer.specs.Bytes.{is_blank, is_digit, is_word_byte, is_number_byte, is_space, begins, begins_include, stops, class_of}
 use Rattle.c_lexer.specs.Words.{number_form, refused_punctuator, or_else, as_kind}
-use Rattle.c_lexer.specs.Pieces.{int_of, decimal_piece, decimal_value, is_decimal, number_by, first_place, line_end, include_line, IsPiece, IsPunctuator, text_piece, character_piece}
+use Rattle.c_lexer.specs.Elements.{int_of, decimal_element, decimal_value, is_decimal, number_by, first_place, line_end, include_line, IsElement, IsPunctuator, text_element, character_element}
 use Rattle.c_lexer.specs.Scan.{width, GoesOn}
 use Rattle.c_lexer.proofs.Local.{blank_low, word_same, number_same, quoted_local, text_closed, character_closed, punctuator_local}
 use Rattle.c_lexer.proofs.LocalSpans.{place_parts, line_end_parts, line_local, include_local, block_local, block_parts, begins_same}
@@ -29,28 +29,28 @@ IsAccepted (kind.Number value) = Unit {0}
 IsAccepted (kind.Text bytes) = Unit {0}
 IsAccepted (kind.Punct number) = Unit {0}
 
--- the piece is no refused token
-abbrev pub NotRefused : Piece → Type 0
-NotRefused (piece.Lexeme kind n) = IsAccepted kind
-NotRefused piece.End = Unit {0}
-NotRefused piece.Blank = Unit {0}
-NotRefused (piece.Comment n) = Unit {0}
-NotRefused (piece.Include n) = Unit {0}
-NotRefused (piece.Bad fault n) = Unit {0}
+-- the element is no refused token
+abbrev pub NotRefused : Element → Type 0
+NotRefused (element.Lexeme kind n) = IsAccepted kind
+NotRefused element.End = Unit {0}
+NotRefused element.Blank = Unit {0}
+NotRefused (element.Comment n) = Unit {0}
+NotRefused (element.Include n) = Unit {0}
+NotRefused (element.Bad fault n) = Unit {0}
 
 refused_kind : (o : Option ℕ) (k : Kind) → or_else None (as_kind kind.Refused o) ≡ Some k → IsAccepted k → ⊥
 refused_kind None k e accepted = cc
 refused_kind (Some row) k e accepted = let same : kind.Refused row ≡ k = cc in subst IsAccepted (sym same) accepted
 
 -- a punctuator that begins with `#` is refused
-pub hash_refused : (r : List ℕ) (p : Piece) → IsPunctuator (35 ∷ r) p → GoesOn p → NotRefused p → ⊥
-hash_refused r (piece.Lexeme k zero) is goes accepted = let e = is.1 in cc
-hash_refused r (piece.Lexeme k (suc n)) is goes accepted = refused_kind (refused_punctuator (35 ∷ take n r)) k is.1 accepted
-hash_refused r (piece.Bad fault at) is goes accepted = goes
-hash_refused r piece.End is goes accepted = is
-hash_refused r piece.Blank is goes accepted = is
-hash_refused r (piece.Comment n) is goes accepted = is
-hash_refused r (piece.Include n) is goes accepted = is
+pub hash_refused : (r : List ℕ) (p : Element) → IsPunctuator (35 ∷ r) p → GoesOn p → NotRefused p → ⊥
+hash_refused r (element.Lexeme k zero) is goes accepted = let e = is.1 in cc
+hash_refused r (element.Lexeme k (suc n)) is goes accepted = refused_kind (refused_punctuator (35 ∷ take n r)) k is.1 accepted
+hash_refused r (element.Bad fault at) is goes accepted = goes
+hash_refused r element.End is goes accepted = is
+hash_refused r element.Blank is goes accepted = is
+hash_refused r (element.Comment n) is goes accepted = is
+hash_refused r (element.Include n) is goes accepted = is
 
 -- ---- the class
 
@@ -66,39 +66,36 @@ class_by slashes star include x =
     (cond (x == 39) class.Character
     class.Other)))))))
 
-class_is : (fresh : Bool) (x : ℕ) (r : List ℕ) → class_of fresh (x ∷ r) ≡ class_by (begins (x ∷ r) (codes "//")) (begins (x ∷ r) (codes "/*")) (fresh && begins_include (x ∷ r)) x
-class_is fresh x r = refl
-
-pub line_wide : (body : List ℕ) (p : Piece) → GoesOn p → p ≡ line_end piece.Comment 2 body (first_place (stops stop.LineComment) body) → 2 ≤ width p
+pub line_wide : (body : List ℕ) (p : Element) → GoesOn p → p ≡ line_end element.Comment 2 body (first_place (stops stop.LineComment) body) → 2 ≤ width p
 line_wide body p goes is =
     ⊎_elim
     (λ unended. omega (arith, ap width (is ∙ unended)))
     (λ ended. omega (arith, ap width (is ∙ ended.2)))
-    (line_end_parts piece.Comment 2 body (first_place (stops stop.LineComment) body) (subst GoesOn is goes))
+    (line_end_parts element.Comment 2 body (first_place (stops stop.LineComment) body) (subst GoesOn is goes))
 
 -- a comment has two bytes at least
-pub slashes_wide : (fresh : Bool) (xs : List ℕ) (p : Piece) → begins xs (codes "//") ≡ true → GoesOn p → IsPiece (class_of fresh xs) xs p → 2 ≤ width p
+pub slashes_wide : (fresh : Bool) (xs : List ℕ) (p : Element) → begins xs (codes "//") ≡ true → GoesOn p → IsElement (class_of fresh xs) xs p → 2 ≤ width p
 slashes_wide fresh [] p e goes is = absurd (false≢true e)
 slashes_wide fresh (x ∷ []) p e goes is = absurd (false≢true (sym (and_right (nat_eq 47 x) false refl) ∙ e))
 slashes_wide fresh (x ∷ y ∷ r) p e goes is =
     let parts = and_parts (nat_eq 47 x) (nat_eq 47 y && true) e in
     let first : x ≡ 47 = sym (eqb-true 47 x parts.0) in
     let second : y ≡ 47 = sym (eqb-true 47 y (and_parts (nat_eq 47 y) true parts.1).0) in
-    let P : ℕ → Type 0 = λ a. IsPiece (class_of fresh (a ∷ y ∷ r)) (a ∷ y ∷ r) p in
-    let Q : ℕ → Type 0 = λ a. IsPiece (class_of fresh (47 ∷ a ∷ r)) (47 ∷ a ∷ r) p in
-    let there : IsPiece (class_of fresh (47 ∷ 47 ∷ r)) (47 ∷ 47 ∷ r) p = subst Q second (subst P first is) in
+    let P : ℕ → Type 0 = λ a. IsElement (class_of fresh (a ∷ y ∷ r)) (a ∷ y ∷ r) p in
+    let Q : ℕ → Type 0 = λ a. IsElement (class_of fresh (47 ∷ a ∷ r)) (47 ∷ a ∷ r) p in
+    let there : IsElement (class_of fresh (47 ∷ 47 ∷ r)) (47 ∷ 47 ∷ r) p = subst Q second (subst P first is) in
     line_wide r p goes there
 
-pub star_wide : (fresh : Bool) (xs : List ℕ) (p : Piece) → begins xs (codes "/*") ≡ true → GoesOn p → IsPiece (class_of fresh xs) xs p → 2 ≤ width p
+pub star_wide : (fresh : Bool) (xs : List ℕ) (p : Element) → begins xs (codes "/*") ≡ true → GoesOn p → IsElement (class_of fresh xs) xs p → 2 ≤ width p
 star_wide fresh [] p e goes is = absurd (false≢true e)
 star_wide fresh (x ∷ []) p e goes is = absurd (false≢true (sym (and_right (nat_eq 47 x) false refl) ∙ e))
 star_wide fresh (x ∷ y ∷ r) p e goes is =
     let parts = and_parts (nat_eq 47 x) (nat_eq 42 y && true) e in
     let first : x ≡ 47 = sym (eqb-true 47 x parts.0) in
     let second : y ≡ 42 = sym (eqb-true 42 y (and_parts (nat_eq 42 y) true parts.1).0) in
-    let P : ℕ → Type 0 = λ a. IsPiece (class_of fresh (a ∷ y ∷ r)) (a ∷ y ∷ r) p in
-    let Q : ℕ → Type 0 = λ a. IsPiece (class_of fresh (47 ∷ a ∷ r)) (47 ∷ a ∷ r) p in
-    let there : IsPiece (class_of fresh (47 ∷ 42 ∷ r)) (47 ∷ 42 ∷ r) p = subst Q second (subst P first is) in
+    let P : ℕ → Type 0 = λ a. IsElement (class_of fresh (a ∷ y ∷ r)) (a ∷ y ∷ r) p in
+    let Q : ℕ → Type 0 = λ a. IsElement (class_of fresh (47 ∷ a ∷ r)) (47 ∷ a ∷ r) p in
+    let there : IsElement (class_of fresh (47 ∷ 42 ∷ r)) (47 ∷ 42 ∷ r) p = subst Q second (subst P first is) in
     omega (arith, ap width (block_parts r p goes there).1.is)
 
 low_not : (b c : ℕ) → b ≤ 32 → 32 < c → nat_eq c b ≡ false
@@ -218,7 +215,7 @@ include_same w s t m word place within =
     ∙ word
 
 -- what a line needs of the front behind it: a byte, and two where a comment follows an include line
-abbrev pub Room : Class → List ℕ → List ℕ → Piece → Type 0
+abbrev pub Room : Class → List ℕ → List ℕ → Element → Type 0
 Room class.LineComment w s p = width p < length w
 Room class.IncludeLine w s p = (width p < length w) × ((begins (drop (width p) (w ++ s)) (10 ∷ []) ≡ true) ⊎ (width p + 2 ≤ length w))
 Room class.End w s p = Unit {0}
@@ -230,41 +227,41 @@ Room class.Text w s p = Unit {0}
 Room class.Character w s p = Unit {0}
 Room class.Other w s p = Unit {0}
 
-hash_include : (w s t : List ℕ) (p : Piece) → GoesOn p → NotRefused p → width p ≤ length (35 ∷ w) → Room (class_of true (35 ∷ w ++ s)) (35 ∷ w) s p → IsPiece (class_of true (35 ∷ w ++ s)) (35 ∷ w ++ s) p
+hash_include : (w s t : List ℕ) (p : Element) → GoesOn p → NotRefused p → width p ≤ length (35 ∷ w) → Room (class_of true (35 ∷ w ++ s)) (35 ∷ w) s p → IsElement (class_of true (35 ∷ w ++ s)) (35 ∷ w ++ s) p
     → begins_include (35 ∷ w ++ s) ≡ begins_include (35 ∷ w ++ t)
 hash_include w s t p goes accepted within room is =
     ⊎_elim
     (λ include.
     let line : class_of true (35 ∷ w ++ s) ≡ class.IncludeLine = cond-true (begins_include (35 ∷ w ++ s)) class.IncludeLine class.Other include in
-    let P : Class → Type 0 = λ c. IsPiece c (35 ∷ w ++ s) p in
+    let P : Class → Type 0 = λ c. IsElement c (35 ∷ w ++ s) p in
     let is_line : p ≡ include_line (35 ∷ w ++ s) = subst P line is in
     let Q : Class → Type 0 = λ c. Room c (35 ∷ w) s p in
     let behind = subst Q line room in
     ⊎_elim
     (λ unended. absurd (omega (arith, behind.0, ap width (is_line ∙ unended), length-append w s)))
     (λ ended. include ∙ sym (include_same w s t ended.0 include ended.1.place (omega (arith, ap width (is_line ∙ ended.2)))))
-    (line_end_parts piece.Include 1 (w ++ s) (first_place (stops stop.IncludeLine) (w ++ s)) (subst GoesOn is_line goes)))
+    (line_end_parts element.Include 1 (w ++ s) (first_place (stops stop.IncludeLine) (w ++ s)) (subst GoesOn is_line goes)))
     (λ other.
     let apart : class_of true (35 ∷ w ++ s) ≡ class.Other = cond-false (begins_include (35 ∷ w ++ s)) class.IncludeLine class.Other other in
-    let P : Class → Type 0 = λ c. IsPiece c (35 ∷ w ++ s) p in
+    let P : Class → Type 0 = λ c. IsElement c (35 ∷ w ++ s) p in
     absurd (hash_refused (w ++ s) p (subst P apart is) goes accepted))
     (cases_Bool (begins_include (35 ∷ w ++ s)))
 
-fresh_include : (fresh : Bool) (x : ℕ) (w s t : List ℕ) (p : Piece) → GoesOn p → NotRefused p → width p ≤ length (x ∷ w) → Room (class_of fresh (x ∷ w ++ s)) (x ∷ w) s p → IsPiece (class_of fresh (x ∷ w ++ s)) (x ∷ w ++ s) p
+fresh_include : (fresh : Bool) (x : ℕ) (w s t : List ℕ) (p : Element) → GoesOn p → NotRefused p → width p ≤ length (x ∷ w) → Room (class_of fresh (x ∷ w ++ s)) (x ∷ w) s p → IsElement (class_of fresh (x ∷ w ++ s)) (x ∷ w ++ s) p
     → (fresh && begins_include (x ∷ w ++ s)) ≡ (fresh && begins_include (x ∷ w ++ t))
 fresh_include false x w s t p goes accepted within room is = refl
 fresh_include true x w s t p goes accepted within room is =
     ⊎_elim
     (λ hash.
     let same : x ≡ 35 = sym (eqb-true 35 x hash) in
-    let P : ℕ → Type 0 = λ y. Room (class_of true (y ∷ w ++ s)) (y ∷ w) s p → IsPiece (class_of true (y ∷ w ++ s)) (y ∷ w ++ s) p → begins_include (y ∷ w ++ s) ≡ begins_include (y ∷ w ++ t) in
+    let P : ℕ → Type 0 = λ y. Room (class_of true (y ∷ w ++ s)) (y ∷ w) s p → IsElement (class_of true (y ∷ w ++ s)) (y ∷ w ++ s) p → begins_include (y ∷ w ++ s) ≡ begins_include (y ∷ w ++ t) in
     subst P (sym same) (λ room' is'. hash_include w s t p goes accepted within room' is') room is)
     (λ other.
     let no_hash : (r : List ℕ) → begins_include (x ∷ r) ≡ false = λ r. and_left (nat_eq 35 x && true) _ (and_left (nat_eq 35 x) true other) in
     no_hash (w ++ s) ∙ sym (no_hash (w ++ t)))
     (cases_Bool (nat_eq 35 x))
 
-class_same : (fresh : Bool) (x : ℕ) (w s t : List ℕ) (b : ℕ) (p : Piece) → is_blank b ≡ true → GoesOn p → NotRefused p → width p ≤ length (x ∷ w) → Room (class_of fresh (x ∷ w ++ s)) (x ∷ w) s p → IsPiece (class_of fresh (x ∷ w ++ s)) (x ∷ w ++ s) p
+class_same : (fresh : Bool) (x : ℕ) (w s t : List ℕ) (b : ℕ) (p : Element) → is_blank b ≡ true → GoesOn p → NotRefused p → width p ≤ length (x ∷ w) → Room (class_of fresh (x ∷ w ++ s)) (x ∷ w) s p → IsElement (class_of fresh (x ∷ w ++ s)) (x ∷ w ++ s) p
     → class_of fresh (x ∷ w ++ s) ≡ class_of fresh (x ∷ w ++ b ∷ t)
 class_same fresh x w s t b p blank goes accepted within room is =
     let low = blank_low b blank in
@@ -273,22 +270,22 @@ class_same fresh x w s t b p blank goes accepted within room is =
     let include = fresh_include fresh x w s (b ∷ t) p goes accepted within room is in
     λ i. class_by (slashes i) (star i) (include i) x
 
--- ---- the piece
+-- ---- the element
 
-decimal_width : (o : Option ℤ) (n : ℕ) → GoesOn (decimal_piece o n) → width (decimal_piece o n) ≡ n
+decimal_width : (o : Option ℤ) (n : ℕ) → GoesOn (decimal_element o n) → width (decimal_element o n) ≡ n
 decimal_width None n goes = absurd goes
 decimal_width (Some value) n goes = refl
 
 pub number_width : (run : List ℕ) (n : ℕ) → GoesOn (number_by run n) → width (number_by run n) ≡ n
 number_width run n goes =
-    let yes' = decimal_piece (int_of (decimal_value run)) n in
-    let other : Piece = piece.Lexeme (kind.Refused number_form) n in
+    let yes' = decimal_element (int_of (decimal_value run)) n in
+    let other : Element = element.Lexeme (kind.Refused number_form) n in
     ⊎_elim
     (λ decimal. ap width (cond-true (is_decimal run) yes' other decimal) ∙ decimal_width (int_of (decimal_value run)) n (subst GoesOn (cond-true (is_decimal run) yes' other decimal) goes))
     (λ else. ap width (cond-false (is_decimal run) yes' other else))
     (cases_Bool (is_decimal run))
 
-of_class : (c : Class) (x : ℕ) (w s t : List ℕ) (b : ℕ) (p : Piece) → is_blank b ≡ true → GoesOn p → width p ≤ length (x ∷ w) → Room c (x ∷ w) s p → IsPiece c (x ∷ w ++ s) p → IsPiece c (x ∷ w ++ b ∷ t) p
+of_class : (c : Class) (x : ℕ) (w s t : List ℕ) (b : ℕ) (p : Element) → is_blank b ≡ true → GoesOn p → width p ≤ length (x ∷ w) → Room c (x ∷ w) s p → IsElement c (x ∷ w ++ s) p → IsElement c (x ∷ w ++ b ∷ t) p
 of_class class.End x w s t b p blank goes within room is = is
 of_class class.Blank x w s t b p blank goes within room is = is
 of_class class.LineComment x [] s t b p blank goes within room is = absurd (omega (arith, line_wide (drop 2 (x ∷ s)) p goes is))
@@ -300,13 +297,13 @@ of_class class.Word x w s t b p blank goes within room is = is ∙ sym (word_sam
 of_class class.Digits x w s t b p blank goes within room is =
     let n = prefix_len is_number_byte (x ∷ w ++ s) in
     is ∙ sym (number_same (x ∷ w) s t b blank (omega (arith, ap width is, number_width (take n (x ∷ w ++ s)) n (subst GoesOn is goes))))
-of_class class.Text x w s t b p blank goes within room is = quoted_local Double text_piece text_closed x w s (b ∷ t) p goes within is
-of_class class.Character x w s t b p blank goes within room is = quoted_local Single character_piece character_closed x w s (b ∷ t) p goes within is
+of_class class.Text x w s t b p blank goes within room is = quoted_local Double text_element text_closed x w s (b ∷ t) p goes within is
+of_class class.Character x w s t b p blank goes within room is = quoted_local Single character_element character_closed x w s (b ∷ t) p goes within is
 of_class class.Other x w s t b p blank goes within room is = punctuator_local (x ∷ w) s t b p blank goes within is
 
--- an accepted piece within the front is the same with a blank behind the front
-pub piece_local : (fresh : Bool) (x : ℕ) (w s t : List ℕ) (b : ℕ) (p : Piece) → is_blank b ≡ true → GoesOn p → NotRefused p → width p ≤ length (x ∷ w) → Room (class_of fresh (x ∷ w ++ s)) (x ∷ w) s p
-    → IsPiece (class_of fresh (x ∷ w ++ s)) (x ∷ w ++ s) p → IsPiece (class_of fresh (x ∷ w ++ b ∷ t)) (x ∷ w ++ b ∷ t) p
-piece_local fresh x w s t b p blank goes accepted within room is =
-    let P : Class → Type 0 = λ c. IsPiece c (x ∷ w ++ b ∷ t) p in
+-- an accepted element within the front is the same with a blank behind the front
+pub element_local : (fresh : Bool) (x : ℕ) (w s t : List ℕ) (b : ℕ) (p : Element) → is_blank b ≡ true → GoesOn p → NotRefused p → width p ≤ length (x ∷ w) → Room (class_of fresh (x ∷ w ++ s)) (x ∷ w) s p
+    → IsElement (class_of fresh (x ∷ w ++ s)) (x ∷ w ++ s) p → IsElement (class_of fresh (x ∷ w ++ b ∷ t)) (x ∷ w ++ b ∷ t) p
+element_local fresh x w s t b p blank goes accepted within room is =
+    let P : Class → Type 0 = λ c. IsElement c (x ∷ w ++ b ∷ t) p in
     subst P (class_same fresh x w s t b p blank goes accepted within room is) (of_class (class_of fresh (x ∷ w ++ s)) x w s t b p blank goes within room is)

@@ -1,6 +1,6 @@
 //! The program of a draft.
 ghost use Rattle.std.specs.Prelude.{◌≡◌, [], IfOk};
-ghost use Rattle.memfix_engine.specs.Reading.{nothing_read, read_from, body_of, main_of, result_of, whole_of, program_of};
+ghost use Rattle.memfix_engine.specs.Gathered.{nothing_read, read_from, body_of, main_of, result_of, whole_of, program_of};
 
 use crate::draft::{Deed, Draft, Make, Release, Show, Step, Store};
 use crate::items::{declared, one, shown, stored};
@@ -13,31 +13,31 @@ use std::alloc::{AllocError, Global};
 /// What the steps of a draft have given so far: the variables, the items behind their gaps, and the
 /// frees of the gap before the next item.
 #[derive(Debug, Drop)]
-pub(crate) struct Reading {
+pub(crate) struct Gathered {
     pub(crate) vars: Seq<VarDef>,
     pub(crate) pieces: Items<Piece>,
     pub(crate) frees: Seq<Free>,
 }
 
-impl Reading {
+impl Gathered {
     ghost use Rattle.std.specs.Prelude.{◌≡◌, IfOk, IfSome, Some, None, option_map};
     ghost use Rattle.memfix_engine.specs.Names.{number_in, names_of};
-    ghost use Rattle.memfix_engine.specs.Reading.{var_of, with_item, with_var, with_make, made, stored, shown, released, stepped, nothing_read};
+    ghost use Rattle.memfix_engine.specs.Gathered.{var_of, with_item, with_var, with_make, made, stored, shown, released, stepped, nothing_read};
 
-    fn new(alloc: Global) -> Reading
+    fn new(alloc: Global) -> Gathered
         ensures { result ≡ nothing_read }
     {
-        Reading {
+        Gathered {
             vars: Seq::new(alloc),
             pieces: Items::new(alloc),
             frees: Seq::new(alloc),
         }
     }
 
-    fn with_item(self, alloc: Global, item: Item, step: &Step) -> Result<Reading, AllocError>
+    fn with_item(self, alloc: Global, item: Item, step: &Step) -> Result<Gathered, AllocError>
         ensures { IfOk result (λ r. r ≡ with_item self item step.now) }
     {
-        let Reading {
+        let Gathered {
             vars,
             mut pieces,
             frees,
@@ -52,17 +52,17 @@ impl Reading {
             start: step.start,
             end: step.end,
         })?;
-        Ok(Reading {
+        Ok(Gathered {
             vars,
             pieces,
             frees: Seq::new(alloc),
         })
     }
 
-    fn with_var(self, alloc: Global, make: &Make) -> Result<Reading, AllocError>
+    fn with_var(self, alloc: Global, make: &Make) -> Result<Gathered, AllocError>
         ensures { IfOk result (λ r. r ≡ with_var self make.now) }
     {
-        let Reading {
+        let Gathered {
             mut vars,
             pieces,
             frees,
@@ -73,19 +73,19 @@ impl Reading {
             home: Home::Local(0),
             at: make.name_at,
         })?;
-        Ok(Reading {
+        Ok(Gathered {
             vars,
             pieces,
             frees,
         })
     }
 
-    fn with_make(self, alloc: Global, step: &Step, make: &Make) -> Result<Reading, AllocError>
+    fn with_make(self, alloc: Global, step: &Step, make: &Make) -> Result<Gathered, AllocError>
         ensures { IfOk result (λ r. r ≡ with_make self step.now make.now) }
     {
         let item = declared(alloc, self.vars.len(), make)?;
-        let reading = self.with_var(alloc, make)?;
-        reading.with_item(alloc, item, step)
+        let gathered = self.with_var(alloc, make)?;
+        gathered.with_item(alloc, item, step)
     }
 
     fn var_of(&self, names: &Names, name: &[u8]) -> Option<usize>
@@ -102,9 +102,9 @@ impl Reading {
         names: &mut Names,
         step: &Step,
         make: &Make,
-    ) -> Result<Option<Reading>, AllocError>
+    ) -> Result<Option<Gathered>, AllocError>
         requires { names.old ≡ names_of self.vars }
-        ensures reading { IfOk result (λ o. o ≡ made self step.now make.now (var_of self.vars make.now.name)) }
+        ensures gathered { IfOk result (λ o. o ≡ made self step.now make.now (var_of self.vars make.now.name)) }
         ensures names { IfOk result (λ o. IfSome o (λ r. names.new ≡ names_of r.vars)) }
     {
         let name = make.name.as_slice();
@@ -123,9 +123,9 @@ impl Reading {
         names: &Names,
         step: &Step,
         store: &Store,
-    ) -> Result<Option<Reading>, AllocError>
+    ) -> Result<Option<Gathered>, AllocError>
         requires { names.now ≡ names_of self.vars }
-        ensures reading { IfOk result (λ o. o ≡ option_map (λ x. with_item self (stored store.now step.now.start x) step.now) (var_of self.vars store.now.name)) }
+        ensures gathered { IfOk result (λ o. o ≡ option_map (λ x. with_item self (stored store.now step.now.start x) step.now) (var_of self.vars store.now.name)) }
         ensures names { IfOk result (λ o. IfSome o (λ r. names.now ≡ names_of r.vars)) }
     {
         match self.var_of(names, store.name.as_slice()) {
@@ -143,9 +143,9 @@ impl Reading {
         names: &Names,
         step: &Step,
         show: &Show,
-    ) -> Result<Option<Reading>, AllocError>
+    ) -> Result<Option<Gathered>, AllocError>
         requires { names.now ≡ names_of self.vars }
-        ensures reading { IfOk result (λ o. o ≡ option_map (λ x. with_item self (shown show.now step.now.start x) step.now) (var_of self.vars show.now.name)) }
+        ensures gathered { IfOk result (λ o. o ≡ option_map (λ x. with_item self (shown show.now step.now.start x) step.now) (var_of self.vars show.now.name)) }
         ensures names { IfOk result (λ o. IfSome o (λ r. names.now ≡ names_of r.vars)) }
     {
         match self.var_of(names, show.name.as_slice()) {
@@ -157,10 +157,10 @@ impl Reading {
         }
     }
 
-    fn released(self, step: &Step, release: &Release, var: usize) -> Result<Reading, AllocError>
+    fn released(self, step: &Step, release: &Release, var: usize) -> Result<Gathered, AllocError>
         ensures { IfOk result (λ r. r ≡ released self step.now release.now var) }
     {
-        let Reading {
+        let Gathered {
             vars,
             pieces,
             mut frees,
@@ -170,7 +170,7 @@ impl Reading {
             start: step.start,
             end: step.end,
         })?;
-        Ok(Reading {
+        Ok(Gathered {
             vars,
             pieces,
             frees,
@@ -182,9 +182,9 @@ impl Reading {
         names: &Names,
         step: &Step,
         release: &Release,
-    ) -> Result<Option<Reading>, AllocError>
+    ) -> Result<Option<Gathered>, AllocError>
         requires { names.now ≡ names_of self.vars }
-        ensures reading { IfOk result (λ o. o ≡ option_map (released self step.now release.now) (var_of self.vars release.now.name)) }
+        ensures gathered { IfOk result (λ o. o ≡ option_map (released self step.now release.now) (var_of self.vars release.now.name)) }
         ensures names { IfOk result (λ o. IfSome o (λ r. names.now ≡ names_of r.vars)) }
     {
         match self.var_of(names, release.name.as_slice()) {
@@ -199,9 +199,9 @@ impl Reading {
         alloc: Global,
         names: &mut Names,
         step: &Step,
-    ) -> Result<Option<Reading>, AllocError>
+    ) -> Result<Option<Gathered>, AllocError>
         requires { names.old ≡ names_of self.vars }
-        ensures reading { IfOk result (λ o. o ≡ stepped self step.now) }
+        ensures gathered { IfOk result (λ o. o ≡ stepped self step.now) }
         ensures names { IfOk result (λ o. IfSome o (λ r. names.new ≡ names_of r.vars)) }
     {
         match &step.deed {
@@ -214,18 +214,18 @@ impl Reading {
     }
 }
 
-fn read_steps(alloc: Global, steps: &[Step]) -> Result<Option<Reading>, AllocError>
+fn read_steps(alloc: Global, steps: &[Step]) -> Result<Option<Gathered>, AllocError>
     ensures { IfOk result (λ o. o ≡ read_from nothing_read steps.now) }
 {
-    let mut reading = Reading::new(alloc);
+    let mut gathered = Gathered::new(alloc);
     let mut names = Names::new(alloc);
     for step in steps {
-        match reading.step(alloc, &mut names, step)? {
-            Some(next) => reading = next,
+        match gathered.step(alloc, &mut names, step)? {
+            Some(next) => gathered = next,
             None => return Ok(None),
         }
     }
-    Ok(Some(reading))
+    Ok(Some(gathered))
 }
 
 fn body_of(
@@ -282,14 +282,14 @@ fn result_of(alloc: Global, draft: &Draft) -> VarDef
     }
 }
 
-fn whole_of(alloc: Global, draft: &Draft, reading: Reading) -> Result<Program, AllocError>
-    ensures { IfOk result (λ p. p ≡ whole_of draft.now reading) }
+fn whole_of(alloc: Global, draft: &Draft, gathered: Gathered) -> Result<Program, AllocError>
+    ensures { IfOk result (λ p. p ≡ whole_of draft.now gathered) }
 {
-    let Reading {
+    let Gathered {
         mut vars,
         pieces,
         frees,
-    } = reading;
+    } = gathered;
     let gaps = pieces.len() + 2;
     vars.push(result_of(alloc, draft))?;
     let body = body_of(alloc, draft, pieces, frees)?;
@@ -309,7 +309,7 @@ pub(crate) fn program_of(alloc: Global, draft: &Draft) -> Result<Option<Program>
     ensures { IfOk result (λ o. o ≡ program_of draft.now) }
 {
     match read_steps(alloc, draft.steps.as_slice())? {
-        Some(reading) => Ok(Some(whole_of(alloc, draft, reading)?)),
+        Some(gathered) => Ok(Some(whole_of(alloc, draft, gathered)?)),
         None => Ok(None),
     }
 }

@@ -24,7 +24,7 @@ use Rattle.memfix_engine.specs.declared.draft.Show.{Show}
 use Rattle.memfix_engine.specs.declared.draft.Release.{Release}
 use Rattle.memfix_engine.specs.declared.draft.Step.{Step}
 use Rattle.memfix_engine.specs.declared.draft.Draft.{Draft}
-use Rattle.memfix_engine.specs.declared.reading.Reading.{Reading}
+use Rattle.memfix_engine.specs.declared.gathered.Gathered.{Gathered}
 
 -- the number of the variable of that name
 abbrev pub var_of : List VarDef → List ℕ → Option ℕ
@@ -34,24 +34,24 @@ abbrev pub item_piece : Gap → Item → ℕ → ℕ → Piece
 item_piece g i start end = roll-Piece (record { gap = g; item = i; start = start; end = end })
 
 -- the gap before the next item has its number and the frees that stand there
-abbrev pub gap_of : Reading → Gap
+abbrev pub gap_of : Gathered → Gap
 gap_of r = record { number = length r.pieces; frees = r.frees }
 
-abbrev pub with_item : Reading → Item → Step → Reading
+abbrev pub with_item : Gathered → Item → Step → Gathered
 with_item r i s = record r { pieces = r.pieces ++ item_piece (gap_of r) i s.start s.end ∷ []; frees = [] }
 
 -- int *N = malloc(sizeof(int));
 abbrev pub declared : ℕ → Make → Item
 declared x t = item.Declare ((record { var = x; right = Some (right.Call (Malloc (Ints None) t.malloc)); at = t.equals }) ∷ [])
 
-abbrev pub with_var : Reading → Make → Reading
+abbrev pub with_var : Gathered → Make → Gathered
 with_var r t = record r { vars = r.vars ++ (record { name = t.name; ty = IntPtr; home = Local 0; at = t.name_at }) ∷ [] }
 
-abbrev pub with_make : Reading → Step → Make → Reading
+abbrev pub with_make : Gathered → Step → Make → Gathered
 with_make r s t = with_item (with_var r t) (declared (length r.vars) t) s
 
 -- each name is declared once
-abbrev pub made : Reading → Step → Make → Option ℕ → Option Reading
+abbrev pub made : Gathered → Step → Make → Option ℕ → Option Gathered
 made r s t None = Some (with_make r s t)
 made r s t (Some x) = None
 
@@ -64,25 +64,25 @@ abbrev pub shown : Show → ℕ → ℕ → Item
 shown t word x = item.Do (Printf (37 ∷ 100 ∷ 10 ∷ []) (Deref (Var x t.name_at) t.star ∷ []) word)
 
 -- free(N);
-abbrev pub released : Reading → Step → Release → ℕ → Reading
+abbrev pub released : Gathered → Step → Release → ℕ → Gathered
 released r s t x = record r { frees = r.frees ++ (record { expr = Var x t.name_at; start = s.start; end = s.end }) ∷ [] }
 
 -- one step more; none where a name is declared twice, or used before it is declared
-abbrev pub stepped_by : Reading → Step → Deed → Option Reading
+abbrev pub stepped_by : Gathered → Step → Deed → Option Gathered
 stepped_by r s (deed.Make t) = made r s t (var_of r.vars t.name)
 stepped_by r s (deed.Store t) = option_map (λ x. with_item r (stored t s.start x) s) (var_of r.vars t.name)
 stepped_by r s (deed.Show t) = option_map (λ x. with_item r (shown t s.start x) s) (var_of r.vars t.name)
 stepped_by r s (deed.Release t) = option_map (released r s t) (var_of r.vars t.name)
 stepped_by r s deed.Empty = Some r
 
-abbrev pub stepped : Reading → Step → Option Reading
+abbrev pub stepped : Gathered → Step → Option Gathered
 stepped r s = stepped_by r s s.deed
 
-abbrev pub nothing_read : Reading
+abbrev pub nothing_read : Gathered
 nothing_read = record { vars = []; pieces = []; frees = [] }
 
--- what the steps give, from a reading on
-abbrev pub read_from : Reading → List Step → Option Reading
+-- what the steps give, behind what earlier ones gave
+abbrev pub read_from : Gathered → List Step → Option Gathered
 read_from r [] = Some r
 read_from r (s ∷ ss) = option_and_then (λ q. read_from q ss) (stepped r s)
 
@@ -91,7 +91,7 @@ abbrev pub return_of : Draft → Item
 return_of d = item.Return (Some (right.Plain (Const d.number d.number_at))) d.return_at
 
 -- the items and the return, and behind it the last gap
-abbrev pub body_of : Draft → Reading → Block
+abbrev pub body_of : Draft → Gathered → Block
 body_of d r = roll-Block (record {
   items = r.pieces ++ item_piece (gap_of r) (return_of d) d.return_at d.return_end ∷ [];
   last_gap = record { number = length r.pieces + 1; frees = [] };
@@ -107,7 +107,7 @@ result_of d = record { name = []; ty = Int; home = Result 0; at = d.close_at }
 abbrev pub main_of : Draft → Block → FunDef
 main_of d body = record { name = codes "main"; result = Some Int; params = []; body = body; at = d.main_at }
 
-abbrev pub whole_of : Draft → Reading → Program
+abbrev pub whole_of : Draft → Gathered → Program
 whole_of d r = record {
   structs = [];
   vars = r.vars ++ result_of d ∷ [];

@@ -11,9 +11,10 @@ pub enum Fault {
     WideNumber,
 }
 
-/// What stands at the front of a text, with its number of bytes; `Bad` has the place of the fault.
+/// An input element: the blank, comment, include line or token at the front of a text, with its number of bytes; `Bad` has
+/// the place of the fault.
 #[derive(Debug, Drop)]
-pub enum Piece {
+pub enum Element {
     End,
     Blank,
     Comment(usize),

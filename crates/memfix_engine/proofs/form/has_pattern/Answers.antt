@@ -1,10 +1,10 @@
 -- Fewer tokens than the pattern has don't match.
 use Rattle.std.proofs.Common.{arith, length, ◌<◌}
 use Rattle.memfix_engine.specs.Form.{wants}
-use Rattle.memfix_engine.proofs.FormLemmas.{begins-short}
-use Rattle.memfix_engine.proofs.form.begins.Goals as goal
+use Rattle.memfix_engine.proofs.FormLemmas.{has_pattern-short}
+use Rattle.memfix_engine.proofs.form.has_pattern.Goals as goal
 
 pub returns-else-tokens-wants : goal.returns-else-tokens-wants
 returns-else-tokens-wants c =
     let short : length c.args.tokens.now < length (wants c.args.pattern) = rw c.wants-wants.ensures at c.if-tokens-wants.false in
-    grind (arith, begins-short c.args.tokens.now c.args.pattern short)
+    grind (arith, has_pattern-short c.args.tokens.now c.args.pattern short)
