@@ -1,5 +1,5 @@
 -- How a log grows to one that refutes.
-use Rattle.std.proofs.Common.{◌≡◌, ◌<◌, List, [], ◌∷◌, ◌++◌, sym, subst, inl, inr, arith}
+use Rattle.std.proofs.Common.{◌≡◌, ◌<◌, List, [], ◌∷◌, ◌++◌, sym, subst, inl, inr}
 use Rattle.std.specs.List.{Contains, All}
 use Rattle.std.proofs.lemmas.List.Elements.{Contains-push_cases, All-contains}
 use Rattle.sat_log.specs.declared.problem.Lit.{Lit}
@@ -7,14 +7,8 @@ use Rattle.sat_log.specs.declared.problem.Clauses.{Clauses}
 use Rattle.sat_log.specs.declared.problem.Log.{Log}
 use Rattle.sat_log.specs.Clauses.{AreBelow}
 use Rattle.sat_log.specs.Refutation.{Falls, Clashes, Follows, IsLog}
-use Rattle.sat_log.proofs.LogLaws.{follows_none, follows_more}
+use Rattle.sat_log.proofs.LogLaws.{follows_more}
 use Rattle.sat_core.specs.Learning.{IsPart, Refutable}
-
-pub part_none : (clauses : Clauses) (log : Log) → log.list ≡ [] → IsPart clauses log
-part_none clauses log e = record {
-  below = subst (AreBelow clauses.vars) (sym e) (λ c i. absurd (omega (arith, i.1)));
-  follows = subst (Follows clauses.list) (sym e) (follows_none clauses.list);
-}
 
 -- a clause that clashes over all of them may be put at the log's end
 pub part_more : (clauses : Clauses) (old new : Log) (c : List Lit) → new.list ≡ old.list ++ c ∷ [] → IsPart clauses old → All (λ l. l.var < clauses.vars) c

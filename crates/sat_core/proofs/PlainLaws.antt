@@ -1,7 +1,7 @@
 -- The plain search: what bits of the first variables lead to.
 use Rattle.std.proofs.Common.{◌≡◌, ℕ, zero, suc, ◌+◌, ◌<◌, ◌≤◌, Bool, true, false, not, List, [], ◌∷◌, ◌++◌, length, get_or, slice_get, take, Some, refl, sym, ap, ◌∙◌, subst, inl, inr, arith}
 use Rattle.std.specs.List.{Contains, All}
-use Rattle.std.proofs.lemmas.List.Elements.{All-contains, All-weaker, All-contains_itself, Contains-get_or, Contains-push, Contains-append_left, Contains-append_right}
+use Rattle.std.proofs.lemmas.List.Elements.{All-contains, All-weaker, All-contains_itself, Contains-push, Contains-append_left, Contains-append_right}
 use Rattle.std.proofs.lemmas.List.{take_more, length-take-le}
 use Rattle.sat_log.specs.declared.problem.Lit.{Lit}
 use Rattle.sat_log.specs.declared.problem.Clauses.{Clauses}
@@ -13,9 +13,6 @@ use Rattle.sat_core.specs.Bits.{IsFalse, HasFalse, against, against_from, IsLast
 use Rattle.sat_core.proofs.ListLaws.{Contains-take_cases}
 
 -- the clauses one by one
-
-pub false_found : (bits : List Bool) (list : List (List Lit)) (i : ℕ) (d : List Lit) → i < length list → IsFalse bits (get_or list i d) → HasFalse bits list
-false_found bits list i d below h = (get_or list i d, Contains-get_or list i d below, h)
 
 pub none_more : (bits : List Bool) (list : List (List Lit)) (i : ℕ) (d : List Lit) → i < length list → ((c : List Lit) → Contains (take i list) c → IsFalse bits c → ⊥) → (IsFalse bits (get_or list i d) → ⊥)
     → (c : List Lit) → Contains (take (i + 1) list) c → IsFalse bits c → ⊥
@@ -96,9 +93,6 @@ branch_clashes clauses log bits below above =
     clashes_split (against bits) (record { var = length bits; yes = true }) (record { var = length bits; yes = false }) refl
     (Contains-append_right clauses log _ (subst (Contains log) (against-push bits false) below))
     (Contains-append_right clauses log _ (subst (Contains log) (against-push bits true) above))
-
-pub keeps_itself : (list : List (List Lit)) → Keeps list list
-keeps_itself list = record { each = λ c i. i }
 
 pub keeps_along : (a b c : List (List Lit)) → Keeps a b → Keeps b c → Keeps a c
 keeps_along a b c h k = record { each = λ d i. k.each d (h.each d i) }

@@ -1,7 +1,6 @@
 -- Resolution keeps it that a contradiction follows.
-use Rattle.std.proofs.Common.{◌≡◌, ◌≢◌, ℕ, zero, suc, ◌+◌, ◌<◌, ◌≤◌, List, [], ◌∷◌, length, get_or, take, Option, Some, None, refl, sym, ap, ◌∙◌, subst, ◌⊎◌, inl, inr, arith}
+use Rattle.std.proofs.Common.{◌≡◌, ◌≢◌, ℕ, zero, suc, ◌+◌, ◌<◌, List, [], ◌∷◌, length, get_or, take, Option, Some, None, refl, sym, ap, ◌∙◌, subst, ◌⊎◌, inl, inr, arith}
 use Rattle.std.specs.List.{Contains}
-use Rattle.std.proofs.lemmas.List.{take_all}
 use Rattle.sat_log.specs.declared.problem.Lit.{Lit}
 use Rattle.sat_log.specs.Clauses.{opposite}
 use Rattle.sat_log.specs.Refutation.{Falls, Clashes}
@@ -53,10 +52,6 @@ refutable_resolved clauses old new clause p known covers kept was = record { cla
       | inr n ↦ falls l (kept l i n)
     ])
 
-pub covers_none : (clauses : List (List Lit)) (marks : List Lit) (clause : List Lit) (pivot : Option Lit) → Covers clauses marks (take 0 clause) pivot
-covers_none clauses marks [] pivot = record { each = λ l i n. absurd (omega (arith, i.1)) }
-covers_none clauses marks (x ∷ clause) pivot = record { each = λ l i n. absurd (omega (arith, i.1)) }
-
 pub covers_more : (clauses : List (List Lit)) (old new clause : List Lit) (pivot : Option Lit) (i : ℕ) (d : Lit) → i < length clause → IsWithin old new
     → Covers clauses old (take i clause) pivot → (pivot ≢ Some (get_or clause i d) → IsMarked clauses new (get_or clause i d)) → Covers clauses new (take (i + 1) clause) pivot
 covers_more clauses old new clause pivot i d below within covers here = record { each = λ l at n. step l n (Contains-take_cases clause i d l below at) }
@@ -68,9 +63,6 @@ covers_more clauses old new clause pivot i d below within covers here = record {
     step : (l : Lit) → pivot ≢ Some l → Contains (take i clause) l ⊎ (get_or clause i d ≡ l) → IsMarked clauses new l
     step l n (inl at) = wider l (covers.each l at n)
     step l n (inr e) = subst (IsMarked clauses new) e (here (λ s. n (s ∙ ap Some e)))
-
-pub covers_all : (clauses : List (List Lit)) (marks clause : List Lit) (pivot : Option Lit) (n : ℕ) → length clause ≤ n → Covers clauses marks (take n clause) pivot → Covers clauses marks clause pivot
-covers_all clauses marks clause pivot n enough covers = subst (λ c. Covers clauses marks c pivot) (take_all n clause enough) covers
 
 pub within_itself : (xs : List Lit) → IsWithin xs xs
 within_itself xs = record { each = λ l i. i }

@@ -1,33 +1,24 @@
 //! What no clause of the solver says: that it answers at all, that its search is quick, and that its logs pass.
 
-use crate::problems::{add, apart, are_below, core_between_pairs, empty, random, things};
-use mf_list::Memory;
+use crate::problems::random;
+use mf_list::{Memory, Seq};
 use rand_pcg::Pcg32;
 use sat_core::{Answer, solve};
-use sat_log::{Clauses, Lit, Log, refutes};
+use sat_log::{Clauses, Lit, are_below};
+use sat_log_tests::logs::is_needed_whole;
+use sat_log_tests::problems::{add, apart, core_between_pairs, list_of, things};
 use std::alloc::Global;
 use std::process::Abort;
 use std::test::Fail;
 
 /// The answer, or None where the problem is none.
 fn answer_of(alloc: Global, clauses: &Clauses, hint: bool) -> Result<Option<Answer>, Memory> {
-    if !are_below(clauses) {
+    if !are_below(clauses.vars, clauses.list.as_slice()) {
         return Ok(None);
     }
     let hint = vec![in alloc; hint; clauses.vars]?;
     let answer = solve(alloc, clauses, hint.as_slice())?;
     Ok(Some(answer))
-}
-
-/// Whether the log refutes the clauses, and no longer does without its last clause.
-fn is_needed_whole(alloc: Global, clauses: &Clauses, log: Log) -> Result<bool, Memory> {
-    let mut log = log;
-    if !are_below(clauses) || !refutes(alloc, clauses, &log)? {
-        return Ok(false);
-    }
-    log.list.pop();
-    let refutes = refutes(alloc, clauses, &log)?;
-    Ok(!refutes)
 }
 
 /// The bits, or None where a log refutes the clauses.
@@ -69,6 +60,13 @@ fn counts_the_problems(rt: HostRuntime) -> Result<(), Fail> {
     Ok(())
 }
 
+fn empty(alloc: Global, vars: usize) -> Clauses {
+    Clauses {
+        vars,
+        list: Seq::new(alloc),
+    }
+}
+
 #[test]
 fn takes_the_hint_first(rt: HostRuntime) -> Result<(), Fail> {
     let alloc = rt.alloc();
@@ -84,19 +82,21 @@ fn takes_the_hint_first(rt: HostRuntime) -> Result<(), Fail> {
 #[test]
 fn takes_odd_clauses(rt: HostRuntime) -> Result<(), Fail> {
     let alloc = rt.alloc();
-    let mut clauses = empty(alloc, 2);
-    add(&mut clauses, alloc, &[1, 1])?;
-    add(&mut clauses, alloc, &[2, -2])?;
-    add(&mut clauses, alloc, &[-1, 2, -1, 2])?;
+    let mut clauses = Clauses {
+        vars: 2,
+        list: list_of(alloc, &[&[1, 1], &[2, -2], &[-1, 2, -1, 2]])?,
+    };
     assert_eq!(rt;
         bits_of(&rt, alloc, &clauses, false)?,
         Some(vec![in alloc; true, true]?)
     );
-    add(&mut clauses, alloc, &[-2, -2, -1])?;
+    add(&mut clauses.list, alloc, &[-2, -2, -1])?;
     assert_eq!(rt; bits_of(&rt, alloc, &clauses, false)?, None);
-    let mut clauses = empty(alloc, 0);
-    add(&mut clauses, alloc, &[])?;
-    assert_eq!(rt; bits_of(&rt, alloc, &clauses, false)?, None);
+    let empty = Clauses {
+        vars: 0,
+        list: list_of(alloc, &[&[]])?,
+    };
+    assert_eq!(rt; bits_of(&rt, alloc, &empty, false)?, None);
     Ok(())
 }
 

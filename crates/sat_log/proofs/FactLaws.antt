@@ -1,7 +1,7 @@
 -- Laws of known bits: what is noted follows, and where clauses are at rest nothing more falls.
 use Rattle.std.proofs.Common.{◌≡◌, ◌≢◌, ℕ, zero, suc, ◌+◌, ◌<◌, Bool, true, false, not, List, [], ◌∷◌, ◌++◌, length, slice_get, get_or, take, drop, replicate, append_assoc, set, Option, None, Some, refl, sym, ap, ◌∙◌, subst, ◌⊎◌, inl, inr, arith}
 use Rattle.std.specs.List.{Contains, HoldsAt}
-use Rattle.std.proofs.lemmas.List.Elements.{Contains-push, Contains-append_left, Contains-append_right, Contains-append_cases}
+use Rattle.std.proofs.lemmas.List.Elements.{Contains-append_left, Contains-append_right, Contains-append_cases}
 use Rattle.sat_log.specs.declared.problem.Lit.{Lit}
 use Rattle.sat_log.specs.declared.facts.Facts.{Facts}
 use Rattle.sat_log.specs.declared.claim.Claim.{Claim}
@@ -13,25 +13,10 @@ use Rattle.sat_log.specs.Propagation.{Settled, IsKnown, IsOut, base_of, Sound, I
 use Rattle.sat_log.proofs.ClashLaws.{opposite-opposite, lit_same_or_other, falls_along, falls_more, clashes_both}
 use Rattle.std.proofs.lemmas.List.{take-append-drop, take_more, length-replicate}
 use Rattle.std.proofs.lemmas.Option.{slice_get-get_or, slice_get_within, get_or_from_slice_get}
-use Rattle.std.proofs.Math.ListN.{length-set}
-
-known_set : (bits : List (Option Bool)) (i : ℕ) (v : Bool) (m : ℕ) (b : Bool) → slice_get (set bits i (Some v)) m ≡ Some (Some b) → ((m ≡ i) × (v ≡ b)) ⊎ (slice_get bits m ≡ Some (Some b))
-known_set [] i v m b h = inr h
-known_set (x ∷ bits) zero v zero b h = inl (refl, cc)
-known_set (x ∷ bits) zero v (suc m) b h = inr h
-known_set (x ∷ bits) (suc i) v zero b h = inr h
-known_set (x ∷ bits) (suc i) v (suc m) b h = elim (known_set bits i v m b h) [ inl e ↦ inl (ap suc e.0, e.1) | inr k ↦ inr k ]
 
 -- no bit is known at the place
 abbrev IsFree : List (Option Bool) → ℕ → Type 0
 IsFree bits i = (b : Bool) → slice_get bits i ≡ Some (Some b) → ⊥
-
-kept_set : (bits : List (Option Bool)) (i : ℕ) (v : Bool) (m : ℕ) (b : Bool) → IsFree bits i → slice_get bits m ≡ Some (Some b) → slice_get (set bits i (Some v)) m ≡ Some (Some b)
-kept_set [] i v m b free h = h
-kept_set (x ∷ bits) zero v zero b free h = absurd (free b h)
-kept_set (x ∷ bits) zero v (suc m) b free h = h
-kept_set (x ∷ bits) (suc i) v zero b free h = h
-kept_set (x ∷ bits) (suc i) v (suc m) b free h = kept_set bits i v m b free h
 
 set_known : (bits : List (Option Bool)) (i : ℕ) (v : Bool) → i < length bits → slice_get (set bits i (Some v)) i ≡ Some (Some v)
 set_known [] i v h = absurd (omega arith)
@@ -66,28 +51,6 @@ known_falls claim facts l sound h = elim (sound.follows l h) [
 
 pub out_falls : (claim : Claim) (facts : Facts) (l : Lit) → Sound claim facts → IsOut facts.bits.items l → Falls (base_of claim) claim.aim.now l
 out_falls claim facts l sound h = subst (Falls (base_of claim) claim.aim.now) (opposite-opposite l) (known_falls claim facts (opposite l) sound h)
-
--- a literal that follows is noted
-pub learnt_sound : (claim : Claim) (old new : Facts) (l : Lit) → Sound claim old → Falls (base_of claim) claim.aim.now (opposite l)
-    → new.bits.items ≡ set old.bits.items l.var (Some l.yes) → new.trail.items ≡ old.trail.items ++ l ∷ [] → Sound claim new
-learnt_sound claim old new l sound falls bits trail = record {
-  follows = λ m h.
-      elim (known_set old.bits.items l.var l.yes m.var m.yes (ap (λ bs. slice_get bs m.var) (sym bits) ∙ h)) [
-        | inl e ↦ (let same : l ≡ m = (λ i. record { var = sym e.0 i; yes = e.1 i }) in
-            inr (subst (λ (t : List Lit). Contains t m) (sym trail) (subst (λ (k : Lit). Contains (old.trail.items ++ l ∷ []) k) same (Contains-push old.trail.items l)), subst (λ k. Falls (base_of claim) claim.aim.now (opposite k)) same falls))
-        | inr k ↦ elim (sound.follows m k) [
-          | inl f ↦ inl f
-          | inr p ↦ inr (subst (λ (t : List Lit). Contains t m) (sym trail) (Contains-append_left old.trail.items (l ∷ []) m p.0), p.1)
-        ]
-      ];
-}
-
-pub learnt_grows : (old new : Facts) (l : Lit) → ¬ IsKnown old.bits.items l → ¬ IsOut old.bits.items l → new.bits.items ≡ set old.bits.items l.var (Some l.yes) → Grows old new
-learnt_grows old new l not_true not_false bits =
-    record {
-      places = ap length bits ∙ length-set old.bits.items l.var (Some l.yes);
-      known = λ m h. ap (λ bs. slice_get bs m.var) bits ∙ kept_set old.bits.items l.var l.yes m.var m.yes (open_free old.bits.items l not_true not_false) h;
-    }
 
 pub grows_more : (old mid new : Facts) → Grows old mid → Grows mid new → Grows old new
 grows_more old mid new g h = record { places = h.places ∙ g.places; known = λ l k. h.known l (g.known l k) }

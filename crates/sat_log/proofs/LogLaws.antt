@@ -150,6 +150,3 @@ log_exact clauses log given list b same_given same_list below ends exact = (
 
 pub no_log_of_wide : (clauses : Clauses) (log : Log) (list : List (List Lit)) → list ≡ log.list → ¬ AreBelow clauses.vars list → ¬ IsLog clauses log
 no_log_of_wide clauses log list same not_so h = not_so (subst (AreBelow clauses.vars) (sym same) h.below)
-
-pub no_log_of_open : (clauses : Clauses) (log : Log) (list : List (List Lit)) → list ≡ log.list → ¬ ((before : List (List Lit)) × (list ≡ before ++ [] ∷ [])) → ¬ IsLog clauses log
-no_log_of_open clauses log list same not_so h = not_so (h.ends.0, same ∙ h.ends.1)

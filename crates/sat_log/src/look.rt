@@ -1,5 +1,5 @@
 //! What the known bits say of clauses.
-ghost use Rattle.std.specs.Prelude.{◌≡◌, ◌≢◌, ◌⊎◌, true, Some, IfSome, IfNone, Contains};
+ghost use Rattle.std.specs.Prelude.{◌≡◌, ◌≢◌, ◌⊎◌, true, false, Some, IfSome, IfNone, Contains};
 ghost use Rattle.sat_log.specs.declared.problem.Lit.{Lit};
 ghost use Rattle.sat_log.specs.Propagation.{IsOut, Says, SaysAll};
 
@@ -30,7 +30,8 @@ pub fn free_besides(facts: &Facts, clause: &[Lit], besides: Option<Lit>) -> Opti
 
 /// Whether the clause has the literal.
 pub fn has(clause: &[Lit], lit: Lit) -> bool
-    ensures { result ≡ true → Contains clause.now lit }
+    ensures found { result ≡ true → Contains clause.now lit }
+    ensures none { result ≡ false → (o : Lit) → Contains clause.now o → o ≢ lit }
 {
     for one in clause {
         if *one == lit {

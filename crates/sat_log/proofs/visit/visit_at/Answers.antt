@@ -15,5 +15,5 @@ conclude-requires-clause-follows c =
     let claim = c.args.claim.now in
     let facts = c.args.facts.now in
     let clause = c.in-Some.clause.now in
-    look_unit claim facts clause c.args.other c.requires (got_contains (base_of claim) c.args.at clause c.in-Some.ensures) (c.has.ensures c.if-not-has.false)
+    look_unit claim facts clause c.args.other c.requires (got_contains (base_of claim) c.args.at clause c.in-Some.ensures) (c.has.ensures.found c.if-not-has.false)
     (besides_out facts.bits.items clause c.args.other c.in_default-free_besides.ensures.none)
