@@ -3,14 +3,13 @@ use Rattle.std.proofs.Common.{◌≡◌, ℕ, ℤ, pos, List, Result, Ok, ap, sy
 use Rattle.c_tree.specs.declared.expr.Expr.{Expr, fold-roll-Expr}
 use Rattle.c_tree.specs.declared.expr.Expr.TheVariants as expr
 use Rattle.c_tree.specs.declared.expr.Expr.TheOpen as layer
-use Rattle.c_tree.specs.declared.expr.Sign.{Sign}
 use Rattle.c_tree.specs.declared.expr.Oper.{Oper}
 use Rattle.c_meaning.specs.declared.value.Value.{Value}
 use Rattle.c_meaning.specs.declared.value.Value.TheVariants as value
 use Rattle.c_meaning.specs.declared.machine.Object.{Object}
 use Rattle.c_meaning.specs.declared.machine.Location.TheVariants.{Slot}
 use Rattle.c_meaning.specs.declared.machine.Stop.{Stop}
-use Rattle.c_meaning.specs.Eval.{◌>>=◌, value_at, int_of, cell_of, field_cell, signed, binary, eval_layer, eval, place_layer, place_of}
+use Rattle.c_meaning.specs.Eval.{◌>>=◌, value_at, cell_of, field_cell, binary, eval_layer, eval, place_layer, place_of}
 
 pub eval_var : (slots : List Value) (objects : List Object) (x offset : ℕ) → eval slots objects (expr.Var x offset) ≡ value_at slots objects offset (Slot x)
 eval_var slots objects x offset =
@@ -39,18 +38,6 @@ eval_deref slots objects e offset =
     ap (eval slots objects) (sym (expr.rolls-Deref e offset))
     ∙ fold-roll-Expr (Result Value Stop) (eval_layer slots objects) (layer.Deref e offset)
 
-pub eval_index : (slots : List Value) (objects : List Object) (e i : Expr) (offset : ℕ) →
-    eval slots objects (expr.Index e i offset) ≡ (eval slots objects e >>= λ v. eval slots objects i >>= int_of >>= λ k. cell_of objects offset k v >>= value_at slots objects offset)
-eval_index slots objects e i offset =
-    ap (eval slots objects) (sym (expr.rolls-Index e i offset))
-    ∙ fold-roll-Expr (Result Value Stop) (eval_layer slots objects) (layer.Index e i offset)
-
-pub eval_unary : (slots : List Value) (objects : List Object) (s : Sign) (e : Expr) (offset : ℕ) →
-    eval slots objects (expr.Unary s e offset) ≡ (eval slots objects e >>= signed s offset)
-eval_unary slots objects s e offset =
-    ap (eval slots objects) (sym (expr.rolls-Unary s e offset))
-    ∙ fold-roll-Expr (Result Value Stop) (eval_layer slots objects) (layer.Unary s e offset)
-
 pub eval_binary : (slots : List Value) (objects : List Object) (o : Oper) (a b : Expr) (offset : ℕ) →
     eval slots objects (expr.Binary o a b offset) ≡ (eval slots objects a >>= λ v. eval slots objects b >>= binary o offset v)
 eval_binary slots objects o a b offset =
@@ -63,11 +50,3 @@ place_var slots objects x offset = ap (place_layer slots objects) (expr.outs-Var
 pub place_deref : (slots : List Value) (objects : List Object) (e : Expr) (offset : ℕ) →
     place_of slots objects (expr.Deref e offset) ≡ (eval slots objects e >>= cell_of objects offset (pos 0))
 place_deref slots objects e offset = ap (place_layer slots objects) (expr.outs-Deref e offset)
-
-pub place_field : (slots : List Value) (objects : List Object) (e : Expr) (f offset : ℕ) →
-    place_of slots objects (expr.Field e f offset) ≡ (eval slots objects e >>= field_cell objects offset f)
-place_field slots objects e f offset = ap (place_layer slots objects) (expr.outs-Field e f offset)
-
-pub place_index : (slots : List Value) (objects : List Object) (e i : Expr) (offset : ℕ) →
-    place_of slots objects (expr.Index e i offset) ≡ (eval slots objects e >>= λ v. eval slots objects i >>= int_of >>= λ k. cell_of objects offset k v)
-place_index slots objects e i offset = ap (place_layer slots objects) (expr.outs-Index e i offset)

@@ -51,8 +51,8 @@ abbrev pub piece_gaps : Piece-F ℕ ℕ ℕ ℕ → ℕ
 piece_gaps p = p.item + 1
 
 -- the number of gaps of a block, those of blocks in it too
-abbrev pub gaps_of : Block → ℕ
-gaps_of = fold-Block ℕ ℕ ℕ ℕ item_gaps arm_gaps block_gaps piece_gaps
+abbrev pub gap_count : Block → ℕ
+gap_count = fold-Block ℕ ℕ ℕ ℕ item_gaps arm_gaps block_gaps piece_gaps
 
 abbrev of_piece : Piece → ℕ
 of_piece = fold-Piece ℕ ℕ ℕ ℕ item_gaps arm_gaps block_gaps piece_gaps
@@ -64,20 +64,20 @@ abbrev of_arm : Arm → ℕ
 of_arm = fold-Arm ℕ ℕ ℕ ℕ item_gaps arm_gaps block_gaps piece_gaps
 
 abbrev of_layer : Item-F Item Arm Block Piece → ℕ
-of_layer x = item_gaps (map-Item Item Arm Block Piece ℕ ℕ ℕ ℕ of_item of_arm gaps_of of_piece x)
+of_layer x = item_gaps (map-Item Item Arm Block Piece ℕ ℕ ℕ ℕ of_item of_arm gap_count of_piece x)
 
 abbrev pieces : Block → List ℕ
 pieces b = map of_piece (out-Block b).items
 
-gaps_opened : (b : Block) → gaps_of b ≡ from_item (pieces b) 0
-gaps_opened b = ap gaps_of (sym (roll-out-Block b)) ∙ fold-roll-Block ℕ ℕ ℕ ℕ item_gaps arm_gaps block_gaps piece_gaps (out-Block b)
+gaps_opened : (b : Block) → gap_count b ≡ from_item (pieces b) 0
+gaps_opened b = ap gap_count (sym (roll-out-Block b)) ∙ fold-roll-Block ℕ ℕ ℕ ℕ item_gaps arm_gaps block_gaps piece_gaps (out-Block b)
 
 piece_opened : (p : Piece) → of_piece p ≡ of_layer (out-Item (out-Piece p).item) + 1
 piece_opened p =
     ap of_piece (sym (roll-out-Piece p)) ∙ fold-roll-Piece ℕ ℕ ℕ ℕ item_gaps arm_gaps block_gaps piece_gaps (out-Piece p)
     ∙ ap (λ (n : ℕ). n + 1) (ap of_item (sym (roll-out-Item (out-Piece p).item)) ∙ fold-roll-Item ℕ ℕ ℕ ℕ item_gaps arm_gaps block_gaps piece_gaps (out-Item (out-Piece p).item))
 
-arm_opened : (a : Arm) → of_arm a ≡ gaps_of (arm_body a)
+arm_opened : (a : Arm) → of_arm a ≡ gap_count (arm_body a)
 arm_opened a = ap of_arm (sym (roll-out-Arm a)) ∙ fold-roll-Arm ℕ ℕ ℕ ℕ item_gaps arm_gaps block_gaps piece_gaps (out-Arm a)
 
 from_step : (xs : List ℕ) (i x : ℕ) → slice_get xs i ≡ Some x → from_item xs i ≡ x + from_item xs (i + 1)
@@ -102,17 +102,17 @@ item_step : (b : Block) (i : ℕ) (x : Item-F Item Arm Block Piece) → item_at 
 item_step b i x e = from_step (pieces b) i (of_layer x + 1) (slice_get-map of_piece (out-Block b).items i ∙ piece_of_option (slice_get (out-Block b).items i) x e)
 
 arms_within : (arms : List Arm) (otherwise : Option Block) (k : ℕ) (b : Block) → slice_get (arm_parts arm_test arm_body arms ++ else_parts otherwise) k ≡ Some (Within b) →
-    gaps_of b ≤ arms_gaps (map of_arm arms) (unwrap_or (option_map gaps_of otherwise) 0)
+    gap_count b ≤ arms_gaps (map of_arm arms) (unwrap_or (option_map gap_count otherwise) 0)
 arms_within [] None k b e = absurd cc
-arms_within [] (Some c) zero b e = let same : c ≡ b = cc in let equal : gaps_of c ≡ gaps_of b = ap gaps_of same in omega arith
+arms_within [] (Some c) zero b e = let same : c ≡ b = cc in let equal : gap_count c ≡ gap_count b = ap gap_count same in omega arith
 arms_within [] (Some c) (suc k) b e = absurd cc
 arms_within (a ∷ arms) otherwise zero b e = absurd cc
 arms_within (a ∷ arms) otherwise (suc zero) b e =
     let same : arm_body a ≡ b = cc in
-    let equal : of_arm a ≡ gaps_of b = arm_opened a ∙ ap gaps_of same in
+    let equal : of_arm a ≡ gap_count b = arm_opened a ∙ ap gap_count same in
     omega arith
 arms_within (a ∷ arms) otherwise (suc (suc k)) b e =
-    let rest : gaps_of b ≤ arms_gaps (map of_arm arms) (unwrap_or (option_map gaps_of otherwise) 0) = arms_within arms otherwise k b e in
+    let rest : gap_count b ≤ arms_gaps (map of_arm arms) (unwrap_or (option_map gap_count otherwise) 0) = arms_within arms otherwise k b e in
     omega arith
 
 -- what a part is not
@@ -130,23 +130,23 @@ apart : (part : Option (Part Block)) (b : Block) → NotWithin part → part ≡
 apart part b h e = subst NotWithin e h
 
 -- the blocks in an item have no more gaps than the item
-part_within : (slot : Option ℕ) (x : Item-F Item Arm Block Piece) (k : ℕ) (b : Block) → part_of slot k x ≡ Some (Within b) → gaps_of b ≤ of_layer x
+part_within : (slot : Option ℕ) (x : Item-F Item Arm Block Piece) (k : ℕ) (b : Block) → part_of slot k x ≡ Some (Within b) → gap_count b ≤ of_layer x
 part_within slot (Declare ds) k b e = absurd (apart _ b (ones_low (λ d. declared d d.right) ds k) e)
 part_within slot (Assign s) zero b e = absurd cc
 part_within slot (Assign s) (suc k) b e = absurd cc
 part_within slot (Do c) zero b e = absurd cc
 part_within slot (Do c) (suc k) b e = absurd cc
-part_within slot (Nest c) zero b e = let same : c ≡ b = cc in let equal : gaps_of c ≡ gaps_of b = ap gaps_of same in omega arith
+part_within slot (Nest c) zero b e = let same : c ≡ b = cc in let equal : gap_count c ≡ gap_count b = ap gap_count same in omega arith
 part_within slot (Nest c) (suc k) b e = absurd cc
 part_within slot (If arms None) k b e = arms_within arms None k b e
 part_within slot (If arms (Some c)) k b e = arms_within arms (Some c) k b e
 part_within slot (While test c) zero b e = absurd cc
-part_within slot (While test c) (suc zero) b e = let same : c ≡ b = cc in let equal : gaps_of c ≡ gaps_of b = ap gaps_of same in omega arith
+part_within slot (While test c) (suc zero) b e = let same : c ≡ b = cc in let equal : gap_count c ≡ gap_count b = ap gap_count same in omega arith
 part_within slot (While test c) (suc (suc k)) b e = absurd cc
 part_within slot (For head c) zero b e = absurd cc
 part_within slot (For head c) (suc zero) b e = absurd cc
 part_within slot (For head c) (suc (suc zero)) b e = absurd cc
-part_within slot (For head c) (suc (suc (suc zero))) b e = let same : c ≡ b = cc in let equal : gaps_of c ≡ gaps_of b = ap gaps_of same in omega arith
+part_within slot (For head c) (suc (suc (suc zero))) b e = let same : c ≡ b = cc in let equal : gap_count c ≡ gap_count b = ap gap_count same in omega arith
 part_within slot (For head c) (suc (suc (suc (suc k)))) b e = absurd cc
 part_within slot Break k b e = absurd cc
 part_within slot Continue k b e = absurd cc
@@ -165,18 +165,18 @@ ahead slot (i ∷ k ∷ path) b = in_part (ahead slot path) (part_at slot b i k)
 
 -- a part that is a block stands in an item, and has at most its gaps
 part_low : (slot : Option ℕ) (b : Block) (i k : ℕ) (c : Block) (o : Option (Item-F Item Arm Block Piece)) → item_at b i ≡ o → option_and_then (part_of slot k) o ≡ Some (Within c) →
-    gaps_of c + 1 + from_item (pieces b) (i + 1) ≤ from_item (pieces b) i
+    gap_count c + 1 + from_item (pieces b) (i + 1) ≤ from_item (pieces b) i
 part_low slot b i k c None e h = absurd cc
 part_low slot b i k c (Some x) e h =
-    let few : gaps_of c ≤ of_layer x = part_within slot x k c h in
+    let few : gap_count c ≤ of_layer x = part_within slot x k c h in
     let here : from_item (pieces b) i ≡ (of_layer x + 1) + from_item (pieces b) (i + 1) = item_step b i x e in
     omega arith
 
-in_part_low : (slot : Option ℕ) (b : Block) (i k : ℕ) (f : Block → ℕ) (part : Option (Part Block)) → ((c : Block) → f c ≤ gaps_of c) → part_at slot b i k ≡ part →
+in_part_low : (slot : Option ℕ) (b : Block) (i k : ℕ) (f : Block → ℕ) (part : Option (Part Block)) → ((c : Block) → f c ≤ gap_count c) → part_at slot b i k ≡ part →
     in_part f part + from_item (pieces b) (i + 1) ≤ from_item (pieces b) 0
 in_part_low slot b i k f (Some (Within c)) low e =
-    let few : f c ≤ gaps_of c = low c in
-    let part : gaps_of c + 1 + from_item (pieces b) (i + 1) ≤ from_item (pieces b) i = part_low slot b i k c (item_at b i) refl e in
+    let few : f c ≤ gap_count c = low c in
+    let part : gap_count c + 1 + from_item (pieces b) (i + 1) ≤ from_item (pieces b) i = part_low slot b i k c (item_at b i) refl e in
     let all : from_item (pieces b) i ≤ from_item (pieces b) 0 = from_le (pieces b) i in
     omega arith
 in_part_low slot b i k f (Some (One a)) low e = let rest : from_item (pieces b) (i + 1) ≤ from_item (pieces b) 0 = from_le (pieces b) (i + 1) in omega arith
@@ -184,7 +184,7 @@ in_part_low slot b i k f (Some (Row row)) low e = let rest : from_item (pieces b
 in_part_low slot b i k f (Some (Condition c)) low e = let rest : from_item (pieces b) (i + 1) ≤ from_item (pieces b) 0 = from_le (pieces b) (i + 1) in omega arith
 in_part_low slot b i k f None low e = let rest : from_item (pieces b) (i + 1) ≤ from_item (pieces b) 0 = from_le (pieces b) (i + 1) in omega arith
 
-ahead_low : (slot : Option ℕ) (path : List ℕ) (b : Block) → ahead slot path b ≤ gaps_of b
+ahead_low : (slot : Option ℕ) (path : List ℕ) (b : Block) → ahead slot path b ≤ gap_count b
 ahead_low slot [] b = omega arith
 ahead_low slot (i ∷ []) b = subst (λ (n : ℕ). from_item (pieces b) i ≤ n) (sym (gaps_opened b)) (from_le (pieces b) i)
 ahead_low slot (i ∷ k ∷ path) b = subst (λ (n : ℕ). in_part (ahead slot path) (part_at slot b i k) + from_item (pieces b) (i + 1) ≤ n) (sym (gaps_opened b))
@@ -227,7 +227,7 @@ spot_low inner (k ∷ j ∷ path) (Some (One a)) n h = h
 spot_low inner (k ∷ j ∷ path) (Some (Row row)) n h = h
 spot_low inner (k ∷ j ∷ path) (Some (Condition e)) n h = test_low (test_at (k ∷ j ∷ path) e) h
 
-spot_within : (inner : Block → Spot) (path : List ℕ) (b : Block) → spot_in inner path (Some (Within b)) ≡ inner b
+pub spot_within : (inner : Block → Spot) (path : List ℕ) (b : Block) → spot_in inner path (Some (Within b)) ≡ inner b
 spot_within inner [] b = refl
 spot_within inner (k ∷ []) b = refl
 spot_within inner (k ∷ j ∷ path) b = refl
@@ -298,8 +298,8 @@ block_low : (slot : Option ℕ) (b : Block) (i k : ℕ) (x : Item-F Item Arm Blo
     ahead slot (i ∷ k ∷ 0 ∷ []) b < from_item (pieces b) i
 block_low slot b i k x c e h =
     subst (λ (o : Option (Part Block)). in_part (ahead slot (0 ∷ [])) o + from_item (pieces b) (i + 1) < from_item (pieces b) i) (sym (part_is slot b i k x (Some (Within c)) e h))
-    (let few : gaps_of c + 1 + from_item (pieces b) (i + 1) ≤ from_item (pieces b) i = part_low slot b i k c (Some x) e h in
-    let all : gaps_of c ≡ from_item (pieces c) 0 = gaps_opened c in
+    (let few : gap_count c + 1 + from_item (pieces b) (i + 1) ≤ from_item (pieces b) i = part_low slot b i k c (Some x) e h in
+    let all : gap_count c ≡ from_item (pieces c) 0 = gaps_opened c in
     omega arith)
 
 first_low : (slot : Option ℕ) (b : Block) (i k : ℕ) (x : Item-F Item Arm Block Piece) (part : Option (Part Block)) → item_at b i ≡ Some x → part_of slot k x ≡ part → Lowers slot b (from_item (pieces b) i) (entered i k part)
@@ -431,13 +431,13 @@ frames_low p (f ∷ fs) h = fun_low p f.fun (slice_get p.funs f.fun) f.path h
 
 -- each function has at most the gaps that the program counts
 abbrev pub CountsGaps : Program → Type 0
-CountsGaps p = All (λ (d : FunDef). gaps_of d.body ≤ p.gaps) p.funs
+CountsGaps p = All (λ (d : FunDef). gap_count d.body ≤ p.gaps) p.funs
 
 fun_few : (p : Program) → CountsGaps p → (f : ℕ) (d : Option FunDef) → slice_get p.funs f ≡ d → (path : List ℕ) → fun_ahead p f d path ≤ p.gaps
 fun_few p few f None e path = omega arith
 fun_few p few f (Some d) e path =
-    let body : gaps_of d.body ≤ p.gaps = subst (λ (x : FunDef). gaps_of x.body ≤ p.gaps) (get_or_from_slice_get p.funs f d d e) (All-get_or (λ (x : FunDef). gaps_of x.body ≤ p.gaps) p.funs f d (slice_get_within p.funs f d e) few) in
-    let low : ahead (result_slot p f) path d.body ≤ gaps_of d.body = ahead_low (result_slot p f) path d.body in
+    let body : gap_count d.body ≤ p.gaps = subst (λ (x : FunDef). gap_count x.body ≤ p.gaps) (get_or_from_slice_get p.funs f d d e) (All-get_or (λ (x : FunDef). gap_count x.body ≤ p.gaps) p.funs f d (slice_get_within p.funs f d e) few) in
+    let low : ahead (result_slot p f) path d.body ≤ gap_count d.body = ahead_low (result_slot p f) path d.body in
     omega arith
 
 frames_few : (p : Program) → CountsGaps p → (fs : List Frame) → frames_ahead p fs ≤ p.gaps

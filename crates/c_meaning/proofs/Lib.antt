@@ -11,7 +11,9 @@ pub mod BuiltSpots
 pub mod Outlines
 pub mod Regapped
 pub mod OutlinePlaces
+pub mod CallPlaces
 pub mod GapBound
+pub mod WellFormedGaps
 pub mod Together
 pub mod Agree
 pub mod StoresAgree

@@ -21,12 +21,12 @@ use Rattle.c_tree.specs.declared.program.FunDef.{FunDef}
 use Rattle.c_tree.specs.declared.program.Program.{Program}
 use Rattle.c_meaning.specs.declared.machine.Frame.{Frame}
 use Rattle.c_meaning.specs.Parts.{Instruction, Close, Part, One, Row, Condition, Within, parts, Through, Goal, Into, Out, entry, goal}
-use Rattle.c_meaning.specs.Place.{Spot, AtGap, AtAction, Nowhere, Onward, To, By, arm_test, arm_body, item_at, part_of, part_at, spot_of, first_place, entered, reached, behind_gap, behind_part, behind_item, behind_in_row, behind_atom, next_in, next, is_result, slot_from, result_slot, brace_of, goes_back, closing, spot_or_brace, spot_in_fun, onward_path, next_in_fun}
+use Rattle.c_meaning.specs.Place.{Spot, AtGap, AtAction, Nowhere, Onward, To, By, arm_test, arm_body, item_at, part_of, part_at, first_place, entered, reached, behind_gap, behind_part, behind_item, behind_in_row, behind_atom, next_in, next, is_result, slot_from, result_slot, brace_of, goes_back, closing, spot_or_brace, spot_in_fun, onward_path, next_in_fun}
 use Rattle.c_meaning.specs.Effects.{parameters_of}
 use Rattle.c_meaning.specs.Step.{here, onward}
 use Rattle.c_meaning.proofs.Opened.{rebuilt_block, rebuilt_arm}
 use Rattle.c_meaning.proofs.BareTests.{first_bare, test_bare, behind_bare}
-use Rattle.c_meaning.proofs.BuiltSpots.{Keeps, mapped_spot, count_same, item_same, part_same, part_at_same, spot_same, spot_or_built}
+use Rattle.c_meaning.proofs.BuiltSpots.{Keeps, mapped_spot, count_same, item_same, part_same, part_at_same, spot_or_built}
 use Rattle.c_meaning.proofs.BareParts.{bare_instruction, bare_action, bare_part, bare_item_is, parts_bare, entry_bare, goal_bare}
 
 slot_same : (f x : ℕ) (vs : List VarDef) → slot_from f x (map bare_var vs) ≡ slot_from f x vs
@@ -112,9 +112,6 @@ module _ (h : Gap → Gap) where
 
   part_at_outline : (slot : Option ℕ) (b : Block) (i k : ℕ) → part_at slot (outlines.block b) i k ≡ option_map (bare_part outlines.block) (part_at slot b i k)
   part_at_outline = part_at_same outline_layers h bare_instruction bare_expr outlines_keep
-
-  spot_of_outline : (slot : Option ℕ) (path : List ℕ) (b : Block) → spot_of slot path (outlines.block b) ≡ outline_spot (spot_of slot path b)
-  spot_of_outline = spot_same outline_layers h bare_instruction bare_expr outlines_keep
 
   -- what follows
 

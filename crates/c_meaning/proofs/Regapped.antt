@@ -27,7 +27,7 @@ use Rattle.c_meaning.proofs.BareParts.{mapped_part}
 use Rattle.c_meaning.proofs.BuiltSpots.{Keeps, mapped_spot, spot_same, spot_or_built}
 use Rattle.c_meaning.proofs.Outlines.{Correspond, skeletons_correspond}
 
-abbrev as_it_is : Instruction → Instruction
+abbrev pub as_it_is : Instruction → Instruction
 as_it_is a = a
 
 abbrev kept_part : (Block → Block) → Part Block → Part Block

@@ -69,9 +69,6 @@ module _ (Marks : Bool → Bool → Type 0) where
   pub data StoresAgree : Store → Store → Type 0 where
     agreeing : (s : Store) (others : List Object) (ending : Ending) → ObjectsAgree Marks s.objects others → bare_ending s.ending ≡ bare_ending ending → StoresAgree s (record s { objects = others; ending = ending })
 
-  pub ending_agrees : {s t : Store} → StoresAgree s t → bare_ending s.ending ≡ bare_ending t.ending
-  ending_agrees (agreeing s others ending h e) = e
-
   pub over_agrees : {s t : Store} → StoresAgree s t → is_over s.ending ≡ is_over t.ending
   over_agrees (agreeing s others ending h e) = over_same s.ending ending e
 

@@ -1,5 +1,5 @@
 -- The values of expressions (C99 6.5), over the slots of the variables and the objects.
-use Rattle.std.specs.Prelude.{ℕ, ◌^◌, ◌==◌, nat_lt, Bool, true, false, not, ℤ, pos, negsuc, ◌+ℤ◌, ◌-ℤ◌, ◌*ℤ◌, neg_ℤ, int_lt, int_le, int_div, int_rem, List, [], ◌∷◌, length, slice_get, unwrap_or, option_map, Option, None, Result, Ok, Err, if◌then◌else◌}
+use Rattle.std.specs.Prelude.{ℕ, ◌==◌, nat_lt, Bool, true, false, not, ℤ, pos, negsuc, ◌+ℤ◌, ◌-ℤ◌, ◌*ℤ◌, neg_ℤ, int_lt, int_le, int_div, int_rem, List, [], ◌∷◌, length, slice_get, unwrap_or, option_map, Option, None, Result, Ok, Err, if◌then◌else◌}
 use Rattle.std.specs.Ordering.{int_eq}
 use Rattle.c_tree.specs.declared.expr.Expr.{Expr, Expr-F, out-Expr, fold-Expr}
 use Rattle.c_tree.specs.declared.expr.Expr.TheOpen.{Const, Null, Var, Field, Deref, Index, Unary, Binary}
@@ -7,6 +7,7 @@ use Rattle.c_tree.specs.declared.expr.Sign.{Sign}
 use Rattle.c_tree.specs.declared.expr.Sign.TheVariants as sign
 use Rattle.c_tree.specs.declared.expr.Oper.{Oper}
 use Rattle.c_tree.specs.declared.expr.Oper.TheVariants as oper
+pub use Rattle.c_tree.specs.Typing.{fits}
 use Rattle.c_meaning.specs.declared.value.Value.{Value}
 use Rattle.c_meaning.specs.declared.value.Value.TheVariants as value
 use Rattle.c_meaning.specs.declared.machine.Object.{Object}
@@ -116,11 +117,6 @@ field_cell objects offset f (value.Int n) = excluded
 field_cell objects offset f value.Undef = excluded
 
 -- operators
-
--- the range of an int of 32 bits
-abbrev pub fits : ℤ → Bool
-fits (pos n) = nat_lt n (2 ^ 31)
-fits (negsuc n) = nat_lt n (2 ^ 31)
 
 -- a result that is not representable is undefined (6.5p5)
 abbrev pub fitted : ℕ → ℤ → Result Value Stop

@@ -1,3 +1,4 @@
+// The cells of an object, in which only what was written takes memory.
 ghost use Rattle.std.specs.Prelude.{◌≡◌, ◌<◌, length, replicate, slice_get, slice_set, OnOk, OnErr};
 ghost use Rattle.c_meaning.specs.declared.value.Value.TheVariants.{Undef};
 

@@ -1,3 +1,4 @@
+// The state of a run, and how it ends.
 use crate::cells::Cells;
 use crate::stack::Stack;
 use crate::supply::Supply;

@@ -1,3 +1,4 @@
+// A list that is taken from its front, as input and failures are.
 ghost use Rattle.std.specs.Prelude.{◌≡◌, [], ◌∷◌, length, IfOk, IsTrue, ◌↔◌, MatchOption};
 
 use std::alloc::{AllocError, Global};

@@ -5,14 +5,9 @@ use Rattle.std.specs.List.Sorted.{IsNonDecreasingBy, IsPartitionPoint}
 use Rattle.std.proofs.lemmas.List.Sorted.{IsNonDecreasingBy-from_all_adjacent}
 use Rattle.std.proofs.lemmas.Bool.Decides.{nat_tests}
 use Rattle.std.proofs.lemmas.Grind.{common_steps}
+use Rattle.std.proofs.lemmas.Bool.{and_parts}
 use Rattle.c_tree.specs.Fill.{ascends, precedes, precedes_in_gap, puts_at}
 use Rattle.c_tree.specs.declared.choice.Put.{Put}
-
-and_left : (a b : Bool) → (a && b) ≡ true → a ≡ true
-and_left a b h = grind (arith, nat_tests)
-
-and_right : (a b : Bool) → (a && b) ≡ true → b ≡ true
-and_right a b h = grind (arith, nat_tests)
 
 gap_not_past : (m n : ℕ) (b : Bool) → (nat_lt m n || ((m == n) && b)) ≡ true → m ≤ n
 gap_not_past m n b h = grind (arith, nat_tests)
@@ -20,10 +15,10 @@ gap_not_past m n b h = grind (arith, nat_tests)
 adjacent : (puts : List Put) → IsTrue (ascends puts) → (k : ℕ) (d : Put) → k + 1 < length puts → (get_or puts k d).gap ≤ (get_or puts (k + 1) d).gap
 adjacent [] h k d below = absurd (omega arith)
 adjacent (p ∷ []) h k d below = absurd (omega arith)
-adjacent (p ∷ q ∷ puts) h zero d below = gap_not_past p.gap q.gap (precedes_in_gap p.field q.field p.var q.var) (and_left (precedes p q) (ascends (q ∷ puts)) h)
+adjacent (p ∷ q ∷ puts) h zero d below = gap_not_past p.gap q.gap (precedes_in_gap p.field q.field p.var q.var) (and_parts (precedes p q) (ascends (q ∷ puts)) h).0
 adjacent (p ∷ q ∷ puts) h (suc k) d below =
     let e : suc k + 1 ≡ suc (k + 1) = omega arith in
-    rw e (adjacent (q ∷ puts) (and_right (precedes p q) (ascends (q ∷ puts)) h) k d (omega arith))
+    rw e (adjacent (q ∷ puts) (and_parts (precedes p q) (ascends (q ∷ puts)) h).1 k d (omega arith))
 
 pub ascending_gaps : (puts : List Put) → IsTrue (ascends puts) → IsNonDecreasingBy (λ (q : Put). q.gap) puts
 ascending_gaps puts h = IsNonDecreasingBy-from_all_adjacent (λ (q : Put). q.gap) puts (adjacent puts h)

@@ -1,4 +1,11 @@
 pub mod Alike
 pub mod Copies
+pub mod Cycles
 pub mod Fill
 pub mod AlikeTest
+pub mod Flow
+pub mod Numbers
+pub mod Scopes
+pub mod Typing
+pub mod UserCalls
+pub mod WellFormed

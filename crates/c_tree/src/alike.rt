@@ -1,3 +1,4 @@
+// Whether two programs are alike when their gaps are emptied.
 ghost use Rattle.std.specs.Prelude.{◌≡◌, ◌↔◌, IsTrue};
 ghost use Rattle.c_tree.specs.Alike.{IsAlike};
 ghost use Rattle.c_tree.specs.Fill.{skeleton};

@@ -1,3 +1,4 @@
+// What a choice puts into the gaps of a program.
 use mf_list::Seq;
 
 /// A place for a `free` statement: in a gap, of a variable `x` or, where `field` is there, of `x->f`.

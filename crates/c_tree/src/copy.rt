@@ -1,8 +1,10 @@
-ghost use Rattle.std.specs.Prelude.{◌≡◌, IfOk, IsTrue, map};
+// Copies of a program with its gaps as they are, emptied or filled.
+ghost use Rattle.std.specs.Prelude.{◌≡◌, ◌↔◌, IfOk, IsTrue, map};
 ghost use Rattle.std.specs.Option.{option_copied};
 ghost use Rattle.c_tree.specs.Fill.{IsAscending, ascends, filled, free_of as freed_put, puts_at};
 ghost use Rattle.c_tree.specs.Fill.{regapped, regapped_block, regapped_fun};
 ghost use Rattle.c_tree.specs.Fill.{fill as filled_program, skeleton as skeleton_of};
+ghost use Rattle.c_tree.specs.WellFormed.{FreesFit, IsWellFormed, PutsFit};
 ghost use Rattle.c_tree.specs.Copies.{AnyAscends, regap};
 ghost use Rattle.c_tree.specs.Copies.{regapped_arm, regapped_item, regapped_piece};
 
@@ -205,14 +207,16 @@ fn copied_program(alloc: Global, program: &Program, puts: Option<&[Put]>) -> Res
 /// The program with the `free` statements that the choice has, and no others.
 pub fn fill(alloc: Global, program: &Program, choice: &Choice) -> Result<Program, Memory>
     requires { IsAscending choice.now }
-    ensures { IfOk result (λ copy. copy ≡ filled_program program.now choice.now) }
+    ensures filled { IfOk result (λ copy. copy ≡ filled_program program.now choice.now) }
+    ensures well_formed { IsWellFormed program.now → PutsFit program.now choice.now → IfOk result IsWellFormed }
 {
     copied_program(alloc, program, Some(choice.puts.as_slice()))
 }
 
 /// The program without `free` statements.
 pub fn skeleton(alloc: Global, program: &Program) -> Result<Program, Memory>
-    ensures { IfOk result (λ copy. copy ≡ skeleton_of program.now) }
+    ensures emptied { IfOk result (λ copy. copy ≡ skeleton_of program.now) }
+    ensures well_formed { IfOk result (λ copy. IsWellFormed program.now ↔ (IsWellFormed copy × FreesFit program.now)) }
 {
     copied_program(alloc, program, Some(&[]))
 }

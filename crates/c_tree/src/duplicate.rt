@@ -1,3 +1,4 @@
+// Copies of expressions and of the parts of items.
 ghost use Rattle.std.specs.Prelude.{◌≡◌, IfOk};
 
 use crate::choice::Choice;

@@ -1,3 +1,4 @@
+// Expressions (C99 6.5).
 use sqlite_items::Boxed;
 
 /// The operators of assignment: `=`, `+=`, `-=`, `*=` (C99 6.5.16). `++` and `--` are `+= 1` and `-= 1`.

@@ -3,6 +3,7 @@
 
 mod alike;
 mod choice;
+mod control;
 mod copy;
 mod duplicate;
 mod expr;
@@ -12,6 +13,7 @@ pub mod tree;
 
 pub use alike::same_skeleton;
 pub use choice::{Choice, Put};
+pub use control::{Edges, Flow, UserCall};
 pub use copy::{fill, puts_of, skeleton};
 pub use duplicate::Duplicate;
 pub use expr::{Expr, Op, Oper, Sign};
@@ -20,6 +22,3 @@ pub use program::{
     Arm, Block, Call, Declr, FieldDef, ForHead, Free, FunDef, Gap, Home, Item, Piece, Program,
     Right, Simple, Size, Start, StructDef, Ty, VarDef,
 };
-
-#[cfg(test)]
-mod tests;

@@ -1,3 +1,4 @@
+// What is counted, and refused where a count passes its limit.
 ghost use Rattle.std.specs.Prelude.{◌≡◌};
 
 use mf_list::Memory;

@@ -1,3 +1,4 @@
+// A program whose names are numbers: types, variables, functions, blocks, items and gaps.
 use crate::expr::{Expr, Op};
 use mf_list::Seq;
 use sqlite_items::{Boxed, Items};

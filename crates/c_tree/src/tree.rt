@@ -165,7 +165,7 @@ pub enum Right {
 pub enum Call {
     /// The callee, the arguments and the offset of the `)`.
     User(Word, Seq<Arg>, usize),
-    /// The cast without its last `*`, the size and the offset of the word.
+    /// The type of the cast with its one `*`, the size and the offset of the word.
     Malloc(Option<Spec>, Size, usize),
     /// The offset of the word.
     Getchar(usize),
