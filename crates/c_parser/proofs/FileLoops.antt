@@ -1,15 +1,17 @@
 -- The loops of the readers of what stands in a file are the readers.
-use Rattle.std.proofs.Common.{◌≡◌, ℕ, zero, suc, Bool, true, false, if◌then◌else◌, List, [], ◌∷◌, ◌++◌, length, drop, Option, Some, None, refl, ap, sym, ◌∙◌, ◌+◌, ◌-◌, ◌<◌, ◌≤◌, option_and_then}
+use Rattle.std.proofs.Common.{◌≡◌, ℕ, zero, suc, Bool, true, false, if◌then◌else◌, List, [], ◌∷◌, ◌++◌, length, drop, Option, Some, None, refl, ap, sym, ◌∙◌, ◌+◌, ◌-◌, ◌<◌, ◌≤◌, option_and_then, subst, Result, Err}
 use Rattle.c_lexer.specs.declared.token.Token.{Token}
 use Rattle.c_tree.specs.declared.tree.GlobalDecl.{GlobalDecl}
 use Rattle.c_tree.specs.declared.tree.Spec.{Spec}
 use Rattle.c_tree.specs.declared.tree.Top.{Top}
-use Rattle.c_tree.specs.declared.tree.Word.{Word}
+use Rattle.c_parser.specs.declared.reading.Unread.{Unread}
+use Rattle.c_parser.specs.declared.reading.Unread.TheVariants as unread
 use Rattle.c_parser.specs.declared.term.Term.{Term}
 use Rattle.c_parser.specs.declared.term.Term.TheVariants as term
 use Rattle.c_parser.specs.declared.turn.Turn.TheVariants.{More, Done}
+use Rattle.c_parser.specs.Answer.{Gives}
 use Rattle.c_parser.specs.Term.{next, sees}
-use Rattle.c_parser.specs.ReadExpressions.{Read, mapped, chained}
+use Rattle.c_parser.specs.ReadExpressions.{Read, chained}
 use Rattle.c_parser.specs.ReadStatements.{read_base, read_starred, naming}
 use Rattle.c_parser.specs.ReadFile.{read_field_names_at, read_field_names, read_fields_behind, read_fields, read_global, read_globals_at, read_globals, read_param, read_more_params_at, read_more_params, read_top, read_file}
 use Rattle.c_parser.specs.Loops.{behind, looped}
@@ -76,30 +78,35 @@ params_is (suc n) front ts = params_at_is (read_more_params n) (looped param_tur
 
 -- the file itself: a declaration more, or none
 
-pub file_on : (depth all so_far : ℕ) (front : List Top) (t : Token) (ts left us : List Token) (top : Top) (answer : Option (List Top)) → so_far < all → left ≡ t ∷ ts →
-    read_file depth (all - so_far) front left ≡ answer → read_top depth left ≡ Some (top, us) → read_file depth (all - (so_far + 1)) (front ++ top ∷ []) us ≡ answer
+file_turn : (depth all so_far : ℕ) (front : List Top) (t : Token) (ts : List Token) (answer : Option (List Top)) → so_far < all → read_file depth (all - so_far) front (t ∷ ts) ≡ answer
+    → answer ≡ option_and_then (λ p. read_file depth (all - (so_far + 1)) (front ++ p.0 ∷ []) p.1) (read_top depth (t ∷ ts))
 unfolding read_file
-file_on depth all so_far front t ts left us top answer is begins reads one =
-    let at : read_top depth (t ∷ ts) ≡ Some (top, us) = ap (read_top depth) (sym begins) ∙ one in
-    let turn : read_file depth (suc (all - (so_far + 1))) front (t ∷ ts) ≡ answer =
-    ap (λ l. read_file depth (suc (all - (so_far + 1))) front l) (sym begins) ∙ ap (λ n. read_file depth n front left) (sym (turn_left all so_far is)) ∙ reads in
-    sym (ap (option_and_then (λ p. read_file depth (all - (so_far + 1)) (front ++ p.0 ∷ []) p.1)) at) ∙ turn
+file_turn depth all so_far front t ts answer is reads = sym reads ∙ ap (λ n. read_file depth n front (t ∷ ts)) (turn_left all so_far is)
 
-pub file_fails : (depth all so_far : ℕ) (front : List Top) (t : Token) (ts left : List Token) (answer : Option (List Top)) → so_far < all → left ≡ t ∷ ts →
-    read_file depth (all - so_far) front left ≡ answer → read_top depth left ≡ None → answer ≡ None
-unfolding read_file
-file_fails depth all so_far front t ts left answer is begins reads none =
-    let at : read_top depth (t ∷ ts) ≡ None = ap (read_top depth) (sym begins) ∙ none in
-    let turn : read_file depth (suc (all - (so_far + 1))) front (t ∷ ts) ≡ answer =
-    ap (λ l. read_file depth (suc (all - (so_far + 1))) front l) (sym begins) ∙ ap (λ n. read_file depth n front left) (sym (turn_left all so_far is)) ∙ reads in
-    sym turn ∙ ap (option_and_then (λ p. read_file depth (all - (so_far + 1)) (front ++ p.0 ∷ []) p.1)) at
+pub file_on : (depth all so_far : ℕ) (front : List Top) (left us : List Token) (top : Top) (answer : Option (List Top)) → so_far < all → (left ≡ [] → ⊥)
+    → read_file depth (all - so_far) front left ≡ answer → read_top depth left ≡ Some (top, us) → read_file depth (all - (so_far + 1)) (front ++ top ∷ []) us ≡ answer
+file_on depth all so_far front [] us top answer is more reads one = absurd (more refl)
+file_on depth all so_far front (t ∷ ts) us top answer is more reads one =
+    sym (file_turn depth all so_far front t ts answer is reads ∙ ap (option_and_then (λ p. read_file depth (all - (so_far + 1)) (front ++ p.0 ∷ []) p.1)) one)
 
-pub file_end : (depth n : ℕ) (front : List Top) (left : List Token) (answer : Option (List Top)) → left ≡ [] → read_file depth n front left ≡ answer → answer ≡ Some front
-unfolding read_file
-file_end depth n front left answer is reads = sym reads ∙ ap (λ l. read_file depth n front l) is
+pub file_fails : {A B : Type 0} → (depth all so_far : ℕ) (front : List Top) (left : List Token) (answer : Option (List Top)) (f : A → Top × List Token) (g : B → List Top)
+    (top : Result A Unread) (result : Result B Unread) (e : Unread) → so_far < all → (left ≡ [] → ⊥) → read_file depth (all - so_far) front left ≡ answer
+    → top ≡ Err e → result ≡ Err e → Gives f top (read_top depth left) → Gives g result answer
+file_fails depth all so_far front left answer f g top result unread.Memory is more reads was fails gives = subst (λ q. Gives g q answer) (sym fails) tt
+file_fails depth all so_far front [] answer f g top result unread.NotHere is more reads was fails gives = absurd (more refl)
+file_fails depth all so_far front (t ∷ ts) answer f g top result unread.NotHere is more reads was fails gives =
+    let none : read_top depth (t ∷ ts) ≡ None = subst (λ q. Gives f q (read_top depth (t ∷ ts))) was gives in
+    subst (λ q. Gives g q answer) (sym fails)
+    (file_turn depth all so_far front t ts answer is reads ∙ ap (option_and_then (λ p. read_file depth (all - (so_far + 1)) (front ++ p.0 ∷ []) p.1)) none)
 
-pub file_stops : (depth all so_far : ℕ) (front : List Top) (t : Token) (ts left : List Token) (answer : Option (List Top)) → all ≤ so_far → left ≡ t ∷ ts →
-    read_file depth (all - so_far) front left ≡ answer → answer ≡ None
+pub file_end : (depth n : ℕ) (front : List Top) (left : List Token) (answer : Option (List Top)) → length left ≡ 0 → read_file depth n front left ≡ answer → answer ≡ Some front
 unfolding read_file
-file_stops depth all so_far front t ts left answer is begins reads =
-    sym reads ∙ ap (λ n. read_file depth n front left) (none_left all so_far is) ∙ ap (λ l. read_file depth 0 front l) begins
+file_end depth zero front [] answer none reads = sym reads
+file_end depth (suc n) front [] answer none reads = sym reads
+file_end depth n front (t ∷ ts) answer none reads = absurd (cc)
+
+pub file_stops : (depth all so_far : ℕ) (front : List Top) (left : List Token) (answer : Option (List Top)) → all ≤ so_far → (left ≡ [] → ⊥)
+    → read_file depth (all - so_far) front left ≡ answer → answer ≡ None
+unfolding read_file
+file_stops depth all so_far front [] answer is more reads = absurd (more refl)
+file_stops depth all so_far front (t ∷ ts) answer is more reads = sym reads ∙ ap (λ n. read_file depth n front (t ∷ ts)) (none_left all so_far is)

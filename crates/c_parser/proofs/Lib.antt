@@ -24,6 +24,7 @@ pub mod ViableBlocks
 pub mod ViableFile
 pub mod Viable
 pub mod Place
+pub mod Answered
 pub mod Stacks
 pub mod Spelled
 pub mod PrintedExpressions
@@ -39,4 +40,6 @@ pub mod FewestStatements
 pub mod FewestBlocks
 pub mod FewestFile
 pub mod Prints
+pub mod PrintWork
+pub mod PrintBlocks
 mod Examples

@@ -1,5 +1,5 @@
 -- The loops of the readers of lists are the readers, and what a turn tells of all of them.
-use Rattle.std.proofs.Common.{◌≡◌, ℕ, zero, suc, Bool, true, false, if◌then◌else◌, List, [], ◌∷◌, ◌++◌, length, drop, Option, Some, None, refl, ap, sym, subst, ◌∙◌, ◌+◌, ◌-◌, ◌<◌, ◌≤◌, Result, Err}
+use Rattle.std.proofs.Common.{◌≡◌, ℕ, zero, suc, Bool, true, false, if◌then◌else◌, List, [], ◌∷◌, ◌++◌, length, drop, Option, Some, None, refl, ap, sym, subst, ◌∙◌, ◌+◌, ◌-◌, ◌<◌, ◌≤◌, Result, Err, arith}
 use Rattle.c_lexer.specs.declared.token.Token.{Token}
 use Rattle.c_tree.specs.declared.tree.Arm.{Arm}
 use Rattle.c_tree.specs.declared.tree.Block.{Block}
@@ -17,7 +17,7 @@ use Rattle.c_parser.specs.Answer.{Gives}
 use Rattle.c_parser.specs.Term.{term_of, next, same}
 use Rattle.c_parser.specs.Blocks.{piece, block}
 use Rattle.c_parser.specs.ReadExpressions.{Read, mapped, chained}
-use Rattle.c_parser.specs.ReadBlocks.{read_free, read_gap_at, read_gap, read_pieces_at, read_pieces, read_body, read_arm, read_else_at, read_else}
+use Rattle.c_parser.specs.ReadBlocks.{read_free, read_gap_at, read_gap, read_pieces_at, read_pieces, read_body, read_arm, read_else_at, read_else, read_item_by, read_item}
 use Rattle.c_parser.specs.Loops.{behind, looped, gap_turn_at, gap_turn, piece_turn_at, piece_turn, else_turn_at, else_turn}
 use Rattle.c_parser.proofs.Turns.{turn_left, none_left}
 
@@ -133,3 +133,10 @@ else_is depth within zero front end ts = refl
 else_is depth within (suc n) front end [] = refl
 else_is depth within (suc n) front end (t ∷ ts) =
     else_by depth within (read_else depth within n) (looped (else_turn depth within) n) (else_is depth within n) front end t ts (same term.Else (term_of t))
+
+-- items
+
+pub item_below : (depth : ℕ) (ts : List Token) → (depth ≡ 0 → ⊥) → read_item depth ts ≡ read_item_by depth (read_item (depth - 1)) ts
+unfolding read_item
+item_below zero ts deep = absurd (deep refl)
+item_below (suc d) ts deep = let less : suc d - 1 ≡ d = omega arith in rw less refl

@@ -55,9 +55,13 @@ two_more k = omega arith
 one_more : (k : ℕ) → k + 1 ≡ suc k
 one_more k = omega arith
 
+pub print_operands : (room : ℕ) (o : Oper) (a b : Expr) (at : ℕ)
+    → printed_expr room (expr.Binary o a b at) ≡ grouped (nat_lt room (level_of o + 2)) (printed_expr (level_of o + 2) a ++ oper_kind o ∷ printed_expr (level_of o + 1) b)
+print_operands room o a b at = ap (printed_expr room) (sym (expr.rolls-Binary o a b at)) ∙ print_layer room (Binary o a b at)
+
 pub print_binary : (room : ℕ) (o : Oper) (a b : Expr) (at : ℕ) → printed_expr room (expr.Binary o a b at) ≡ grouped (nat_lt room (suc (suc (level_of o)))) (printed_operands o a b)
 print_binary room o a b at =
-    ap (printed_expr room) (sym (expr.rolls-Binary o a b at)) ∙ print_layer room (Binary o a b at)
+    print_operands room o a b at
     ∙ ap (λ (n : ℕ). grouped (nat_lt room n) (printed_expr n a ++ oper_kind o ∷ printed_expr (level_of o + 1) b)) (two_more (level_of o))
     ∙ ap (λ (n : ℕ). grouped (nat_lt room (suc (suc (level_of o)))) (printed_expr (suc (suc (level_of o))) a ++ oper_kind o ∷ printed_expr n b)) (one_more (level_of o))
 

@@ -1,6 +1,5 @@
 -- The loops of the readers of what stands in a file: one turn of each.
-use Rattle.std.specs.Prelude.{ℕ, if◌then◌else◌, List, [], ◌∷◌, ◌++◌, drop, length, Option, Some, None}
-use Rattle.c_lexer.specs.declared.token.Token.{Token}
+use Rattle.std.specs.Prelude.{if◌then◌else◌, List, [], ◌∷◌, ◌++◌, drop, length, Some, None}
 use Rattle.c_tree.specs.declared.tree.GlobalDecl.{GlobalDecl}
 use Rattle.c_tree.specs.declared.tree.Spec.{Spec}
 use Rattle.c_parser.specs.declared.term.Term.{Term}

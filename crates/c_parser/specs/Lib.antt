@@ -11,6 +11,7 @@ pub mod ReadBlocks
 pub mod ReadFile
 pub mod Alike
 pub mod Printed
+pub mod PrintWork
 pub mod Answer
 pub mod Turns
 pub mod Loops

@@ -1,5 +1,5 @@
 -- The loops of the readers of lists: one turn of each, and what the turns read together.
-use Rattle.std.specs.Prelude.{ℕ, zero, suc, true, if◌then◌else◌, List, [], ◌∷◌, ◌++◌, drop, length, Option, Some, None}
+use Rattle.std.specs.Prelude.{ℕ, zero, suc, true, if◌then◌else◌, List, [], ◌∷◌, ◌++◌, drop, length, Some, None}
 use Rattle.c_lexer.specs.declared.token.Token.{Token}
 use Rattle.c_tree.specs.declared.tree.Arm.{Arm}
 use Rattle.c_tree.specs.declared.tree.Block.{Block}

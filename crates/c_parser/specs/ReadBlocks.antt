@@ -14,7 +14,7 @@ use Rattle.c_tree.specs.declared.tree.Start.{Start}
 use Rattle.c_tree.specs.declared.tree.Start.TheVariants as start
 use Rattle.c_parser.specs.declared.term.Term.{Term}
 use Rattle.c_parser.specs.declared.term.Term.TheVariants as term
-use Rattle.c_parser.specs.Term.{term_of, next, same, sees}
+use Rattle.c_parser.specs.Term.{term_of, next, same}
 use Rattle.c_parser.specs.Blocks.{piece, arm, block}
 use Rattle.c_parser.specs.ReadExpressions.{Read, mapped, chained, read_want, read_expr, read_arg}
 use Rattle.c_parser.specs.ReadStatements.{read_call, begins_call, read_right, read_simple, read_decl, begins_decl}
@@ -152,7 +152,11 @@ read_item_at depth within term.Continue t ts = mapped (λ s. (item.Continue, s.e
 read_item_at depth within term.Return t ts = read_return depth t ts
 read_item_at depth within _ t ts = read_plain_item depth (t ∷ ts)
 
+-- an item, with the reader of those in its bodies
+abbrev pub read_item_by : ℕ → Read (Item × ℕ) → Read (Item × ℕ)
+read_item_by depth within [] = None
+read_item_by depth within (t ∷ ts) = read_item_at depth within (term_of t) t ts
+
 unfoldable pub read_item : ℕ → Read (Item × ℕ)
 read_item zero ts = None
-read_item (suc depth) [] = None
-read_item (suc depth) (t ∷ ts) = read_item_at (suc depth) (read_item depth) (term_of t) t ts
+read_item (suc depth) ts = read_item_by (suc depth) (read_item depth) ts

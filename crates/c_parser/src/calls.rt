@@ -1,17 +1,17 @@
 // The reader of calls, and of right sides (C99 6.5.2.2).
-ghost use Rattle.std.specs.Prelude.{◌≡◌, IfOk, [], ◌∷◌};
+ghost use Rattle.std.specs.Prelude.{◌≡◌};
 ghost use Rattle.c_parser.specs.Answer.{Gives};
 ghost use Rattle.c_parser.specs.ReadStatements.{read_more_args, read_args, read_request, cast_to, read_cast, read_user, read_getchar, read_putchar, read_text, read_printf, read_call, is_cast, is_call, begins_call, read_right};
 ghost use Rattle.c_parser.specs.Turns.{comma_arg};
 
 use crate::expressions::read_arg;
-use crate::reading::{Unread, read_name, read_want, sees};
+use crate::reading::{Unread, one, read_name, read_want, sees};
 use crate::sizes::{read_base, read_size, skip};
 use crate::term::{Term, next, same, term_of};
 use c_lexer::{Kind, Token};
 use c_tree::tree::{Arg, Call, Right, Spec};
 use mf_bytes::SharedBytes;
-use mf_list::{Memory, Seq};
+use mf_list::Seq;
 use std::alloc::Global;
 
 /// An argument behind its comma.
@@ -46,15 +46,6 @@ fn read_more_args(
     Err(Unread::NotHere)
 }
 
-/// A list of one argument.
-fn one(alloc: Global, argument: Arg) -> Result<Seq<Arg>, Memory>
-    ensures { IfOk result (λ list. list ≡ argument ∷ []) }
-{
-    let mut list = Seq::new(alloc);
-    list.push(argument)?;
-    Ok(list)
-}
-
 /// The arguments of a call, and the offset of its `)`.
 #[tactic(auto, unfolding(crate::specs::ReadStatements::read_args))]
 fn read_args(
@@ -71,7 +62,8 @@ fn read_args(
         return Ok(((Seq::new(alloc), token.start), rest));
     }
     let (argument, rest) = read_arg(alloc, depth, tokens)?;
-    read_more_args(alloc, depth, tokens.len(), one(alloc, argument)?, rest)
+    let front = Seq::from_vec(one(alloc, argument)?);
+    read_more_args(alloc, depth, tokens.len(), front, rest)
 }
 
 /// A request behind its word.

@@ -1,16 +1,15 @@
 // The reader of parameters (C99 6.7.5.3).
-ghost use Rattle.std.specs.Prelude.{◌≡◌, [], ◌∷◌, IfOk};
 ghost use Rattle.c_parser.specs.Answer.{Gives};
 ghost use Rattle.c_parser.specs.FileLoops.{param_turn};
 ghost use Rattle.c_parser.specs.ReadFile.{read_param, read_more_params, read_params};
 
-use crate::reading::{Unread, read_optional, read_stars, read_want};
+use crate::reading::{Unread, one, read_optional, read_stars, read_want};
 use crate::sizes::{read_base, skip};
 use crate::term::{Term, next};
 use crate::turn::Turn;
 use c_lexer::Token;
 use c_tree::tree::Spec;
-use mf_list::{Memory, Seq};
+use mf_list::Seq;
 use std::alloc::Global;
 
 /// A parameter.
@@ -73,15 +72,6 @@ fn read_more_params(
     Err(Unread::NotHere)
 }
 
-/// A list of one parameter.
-fn one_param(alloc: Global, param: Spec) -> Result<Seq<Spec>, Memory>
-    ensures { IfOk result (λ list. list ≡ param ∷ []) }
-{
-    let mut list = Seq::new(alloc);
-    list.push(param)?;
-    Ok(list)
-}
-
 /// The parameters of a function, with the `)`.
 #[tactic(auto, unfolding(crate::specs::ReadFile::read_params))]
 pub fn read_params(alloc: Global, tokens: &[Token]) -> Result<(Seq<Spec>, &[Token]), Unread>
@@ -95,7 +85,8 @@ pub fn read_params(alloc: Global, tokens: &[Token]) -> Result<(Seq<Spec>, &[Toke
         }
         _ => {
             let (param, rest) = read_param(tokens)?;
-            read_more_params(tokens.len(), one_param(alloc, param)?, rest)
+            let front = Seq::from_vec(one(alloc, param)?);
+            read_more_params(tokens.len(), front, rest)
         }
     }
 }

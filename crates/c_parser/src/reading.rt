@@ -1,5 +1,5 @@
 // What the functions of the parser answer, and how they read single tokens.
-ghost use Rattle.std.specs.Prelude.{◌≡◌, IfOk};
+ghost use Rattle.std.specs.Prelude.{◌≡◌, IfOk, [], ◌∷◌};
 ghost use Rattle.c_parser.specs.Answer.{Gives};
 ghost use Rattle.c_parser.specs.ReadExpressions.{read_want, read_name};
 ghost use Rattle.c_parser.specs.ReadFile.{read_optional};
@@ -10,6 +10,7 @@ use crate::term::{Term, next, same, term_of};
 use c_lexer::{Kind, Token};
 use c_tree::tree::Word;
 use mf_list::Memory;
+use std::alloc::Global;
 
 /// Why nothing was read: the tokens don't begin so, or want of memory.
 #[derive(Clone, Copy, Debug, PartialEq, Eq)]
@@ -101,4 +102,13 @@ pub fn read_optional(tokens: &[Token]) -> Result<(Option<Word>, &[Token]), Memor
             _ => Ok((None, tokens)),
         },
     }
+}
+
+/// A list of one, with no room for more, since most lists of a tree stay so short.
+pub fn one<T: Drop>(alloc: Global, item: T) -> Result<Vec<T>, Memory>
+    ensures { IfOk result (λ list. list.items ≡ item ∷ []) }
+{
+    let mut list = Vec::with_capacity(alloc, 1)?;
+    list.push(item)?;
+    Ok(list)
 }

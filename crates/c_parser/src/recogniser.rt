@@ -3,8 +3,8 @@
 ghost use Rattle.std.specs.Prelude.{◌≡◌, Some, None, IfOk, [], ◌∷◌, ◌++◌, if◌then◌else◌, reverse};
 ghost use Rattle.c_parser.specs.Recogniser.{advance, place_of};
 
-use crate::rows::{may_end, takes};
 use crate::symbol::Symbol;
+use crate::table::{may_end, takes};
 use crate::term::{Term, term_of};
 use c_lexer::{Token, Tokens};
 use mf_list::{Memory, Seq};

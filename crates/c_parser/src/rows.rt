@@ -1,23 +1,24 @@
-// The table of the recogniser: what can come next in a text of the grammar.
+// The rows of the recogniser's table for what stands in functions: what can come next in expressions, calls and
+// statements.
 ghost use Rattle.std.specs.Prelude.{◌≡◌, Some, IfOk};
-ghost use Rattle.c_parser.specs.Recogniser.{followed, grouped, based, starred, operand, binary, counted, changed, stepped, operator, after, called, right, named, opened, opened_name, opened_star, arguments, more_arguments, size, next_factor, unit, unit_within, after_unit, more_locals, after_local, simple, piece, for_begun, begun, pieces, otherwise, returned, for_start, for_test, for_step, file, typedef_named, typedef, tagged, field, more_fields, more_names, more_globals, after_global, after_outer, const as constant, parameters, more_parameters, after_star, after_base, after_head, takes, may_end};
+ghost use Rattle.c_parser.specs.Recogniser.{followed, grouped, based, starred, operand, binary, counted, changed, stepped, operator, after, called, right, named, opened, opened_name, opened_star, arguments, more_arguments, size, next_factor, unit, unit_within, after_unit, more_locals, after_local, simple, piece, for_begun, begun, pieces, otherwise, returned, for_start, for_test, for_step};
 
 use crate::symbol::{Part, Symbol};
-use crate::term::{Term, same};
+use crate::term::Term;
 use mf_list::{Memory, Seq};
 use std::alloc::Global;
 
 /// What replaces a symbol behind a token, or that the token doesn't begin it.
 pub type Row = Result<Option<Seq<Symbol>>, Memory>;
 
-fn row(alloc: Global, front: &[Symbol]) -> Row
+pub fn row(alloc: Global, front: &[Symbol]) -> Row
     ensures { IfOk result (λ row. row ≡ Some front.now) }
 {
     Ok(Some(Seq::from_slice(alloc, front)?))
 }
 
 /// A row with more behind it.
-fn followed(alloc: Global, row: Option<Seq<Symbol>>, behind: &[Symbol]) -> Row
+pub fn followed(alloc: Global, row: Option<Seq<Symbol>>, behind: &[Symbol]) -> Row
     ensures { IfOk result (λ longer. longer ≡ followed row behind.now) }
 {
     match row {
@@ -42,7 +43,7 @@ fn grouped(alloc: Global, part: Part, row: Option<Seq<Symbol>>) -> Row
 }
 
 /// A base with what stands behind it.
-fn based(alloc: Global, behind: &[Symbol], term: Term) -> Row
+pub fn based(alloc: Global, behind: &[Symbol], term: Term) -> Row
     ensures { IfOk result (λ row. row ≡ based behind.now term) }
 {
     match term {
@@ -54,7 +55,7 @@ fn based(alloc: Global, behind: &[Symbol], term: Term) -> Row
 }
 
 /// A name, with a star or without, with what stands behind it.
-fn starred(alloc: Global, behind: &[Symbol], term: Term) -> Row
+pub fn starred(alloc: Global, behind: &[Symbol], term: Term) -> Row
     ensures { IfOk result (λ row. row ≡ starred behind.now term) }
 {
     match term {
@@ -64,7 +65,7 @@ fn starred(alloc: Global, behind: &[Symbol], term: Term) -> Row
     }
 }
 
-fn operand(alloc: Global, part: Part, term: Term) -> Row
+pub fn operand(alloc: Global, part: Part, term: Term) -> Row
     ensures { IfOk result (λ row. row ≡ operand part term) }
 {
     match term {
@@ -157,7 +158,7 @@ fn operator(alloc: Global, part: Part, term: Term) -> Row
     }
 }
 
-fn after(alloc: Global, part: Part, term: Term) -> Row
+pub fn after(alloc: Global, part: Part, term: Term) -> Row
     ensures { IfOk result (λ row. row ≡ after part term) }
 {
     match term {
@@ -211,7 +212,7 @@ fn called(alloc: Global, term: Term) -> Row
     }
 }
 
-fn right(alloc: Global, term: Term) -> Row
+pub fn right(alloc: Global, term: Term) -> Row
     ensures { IfOk result (λ row. row ≡ right term) }
 {
     match term {
@@ -225,7 +226,7 @@ fn right(alloc: Global, term: Term) -> Row
     }
 }
 
-fn named(alloc: Global, term: Term) -> Row
+pub fn named(alloc: Global, term: Term) -> Row
     ensures { IfOk result (λ row. row ≡ named term) }
 {
     match term {
@@ -234,7 +235,7 @@ fn named(alloc: Global, term: Term) -> Row
     }
 }
 
-fn opened(alloc: Global, part: Part, term: Term) -> Row
+pub fn opened(alloc: Global, part: Part, term: Term) -> Row
     ensures { IfOk result (λ row. row ≡ opened part term) }
 {
     match term {
@@ -266,7 +267,7 @@ fn opened(alloc: Global, part: Part, term: Term) -> Row
     }
 }
 
-fn opened_name(alloc: Global, part: Part, term: Term) -> Row
+pub fn opened_name(alloc: Global, part: Part, term: Term) -> Row
     ensures { IfOk result (λ row. row ≡ opened_name part term) }
 {
     match term {
@@ -276,7 +277,7 @@ fn opened_name(alloc: Global, part: Part, term: Term) -> Row
     }
 }
 
-fn opened_star(alloc: Global, part: Part, term: Term) -> Row
+pub fn opened_star(alloc: Global, part: Part, term: Term) -> Row
     ensures { IfOk result (λ row. row ≡ opened_star part term) }
 {
     match term {
@@ -293,7 +294,7 @@ fn opened_star(alloc: Global, part: Part, term: Term) -> Row
     }
 }
 
-fn arguments(alloc: Global, term: Term) -> Row
+pub fn arguments(alloc: Global, term: Term) -> Row
     ensures { IfOk result (λ row. row ≡ arguments term) }
 {
     match term {
@@ -306,7 +307,7 @@ fn arguments(alloc: Global, term: Term) -> Row
     }
 }
 
-fn more_arguments(alloc: Global, term: Term) -> Row
+pub fn more_arguments(alloc: Global, term: Term) -> Row
     ensures { IfOk result (λ row. row ≡ more_arguments term) }
 {
     match term {
@@ -319,7 +320,7 @@ fn more_arguments(alloc: Global, term: Term) -> Row
     }
 }
 
-fn size(alloc: Global, term: Term) -> Row
+pub fn size(alloc: Global, term: Term) -> Row
     ensures { IfOk result (λ row. row ≡ size term) }
 {
     match term {
@@ -328,7 +329,7 @@ fn size(alloc: Global, term: Term) -> Row
     }
 }
 
-fn next_factor(alloc: Global, term: Term) -> Row
+pub fn next_factor(alloc: Global, term: Term) -> Row
     ensures { IfOk result (λ row. row ≡ next_factor term) }
 {
     match term {
@@ -337,7 +338,7 @@ fn next_factor(alloc: Global, term: Term) -> Row
     }
 }
 
-fn unit(alloc: Global, term: Term) -> Row
+pub fn unit(alloc: Global, term: Term) -> Row
     ensures { IfOk result (λ row. row ≡ unit term) }
 {
     match term {
@@ -347,7 +348,7 @@ fn unit(alloc: Global, term: Term) -> Row
     }
 }
 
-fn unit_within(alloc: Global, term: Term) -> Row
+pub fn unit_within(alloc: Global, term: Term) -> Row
     ensures { IfOk result (λ row. row ≡ unit_within term) }
 {
     match term {
@@ -365,7 +366,7 @@ fn unit_within(alloc: Global, term: Term) -> Row
     }
 }
 
-fn after_unit(alloc: Global, term: Term) -> Row
+pub fn after_unit(alloc: Global, term: Term) -> Row
     ensures { IfOk result (λ row. row ≡ after_unit term) }
 {
     match term {
@@ -374,7 +375,7 @@ fn after_unit(alloc: Global, term: Term) -> Row
     }
 }
 
-fn more_locals(alloc: Global, term: Term) -> Row
+pub fn more_locals(alloc: Global, term: Term) -> Row
     ensures { IfOk result (λ row. row ≡ more_locals term) }
 {
     match term {
@@ -384,7 +385,7 @@ fn more_locals(alloc: Global, term: Term) -> Row
     }
 }
 
-fn after_local(alloc: Global, term: Term) -> Row
+pub fn after_local(alloc: Global, term: Term) -> Row
     ensures { IfOk result (λ row. row ≡ after_local term) }
 {
     match term {
@@ -408,7 +409,7 @@ fn simple(alloc: Global, term: Term) -> Row
     }
 }
 
-fn piece(alloc: Global, term: Term) -> Row
+pub fn piece(alloc: Global, term: Term) -> Row
     ensures { IfOk result (λ row. row ≡ piece term) }
 {
     match term {
@@ -490,7 +491,7 @@ fn piece(alloc: Global, term: Term) -> Row
     }
 }
 
-fn for_begun(alloc: Global, term: Term) -> Row
+pub fn for_begun(alloc: Global, term: Term) -> Row
     ensures { IfOk result (λ row. row ≡ for_begun term) }
 {
     match term {
@@ -504,7 +505,7 @@ fn for_begun(alloc: Global, term: Term) -> Row
     }
 }
 
-fn begun(alloc: Global, term: Term) -> Row
+pub fn begun(alloc: Global, term: Term) -> Row
     ensures { IfOk result (λ row. row ≡ begun term) }
 {
     match term {
@@ -513,7 +514,7 @@ fn begun(alloc: Global, term: Term) -> Row
     }
 }
 
-fn pieces(alloc: Global, term: Term) -> Row
+pub fn pieces(alloc: Global, term: Term) -> Row
     ensures { IfOk result (λ row. row ≡ pieces term) }
 {
     match term {
@@ -522,7 +523,7 @@ fn pieces(alloc: Global, term: Term) -> Row
     }
 }
 
-fn otherwise(alloc: Global, term: Term) -> Row
+pub fn otherwise(alloc: Global, term: Term) -> Row
     ensures { IfOk result (λ row. row ≡ otherwise term) }
 {
     match term {
@@ -531,7 +532,7 @@ fn otherwise(alloc: Global, term: Term) -> Row
     }
 }
 
-fn returned(alloc: Global, term: Term) -> Row
+pub fn returned(alloc: Global, term: Term) -> Row
     ensures { IfOk result (λ row. row ≡ returned term) }
 {
     match term {
@@ -540,7 +541,7 @@ fn returned(alloc: Global, term: Term) -> Row
     }
 }
 
-fn for_start(alloc: Global, term: Term) -> Row
+pub fn for_start(alloc: Global, term: Term) -> Row
     ensures { IfOk result (λ row. row ≡ for_start term) }
 {
     match term {
@@ -565,7 +566,7 @@ fn for_start(alloc: Global, term: Term) -> Row
     }
 }
 
-fn for_test(alloc: Global, term: Term) -> Row
+pub fn for_test(alloc: Global, term: Term) -> Row
     ensures { IfOk result (λ row. row ≡ for_test term) }
 {
     match term {
@@ -578,7 +579,7 @@ fn for_test(alloc: Global, term: Term) -> Row
     }
 }
 
-fn for_step(alloc: Global, term: Term) -> Row
+pub fn for_step(alloc: Global, term: Term) -> Row
     ensures { IfOk result (λ row. row ≡ for_step term) }
 {
     match term {
@@ -597,275 +598,5 @@ fn for_step(alloc: Global, term: Term) -> Row
             ],
         ),
         _ => followed(alloc, simple(alloc, term)?, &[Symbol::Want(Term::Close)]),
-    }
-}
-
-fn file(alloc: Global, term: Term) -> Row
-    ensures { IfOk result (λ row. row ≡ file term) }
-{
-    match term {
-        Term::Typedef => row(
-            alloc,
-            &[Symbol::Want(Term::Struct), Symbol::Typedef, Symbol::File],
-        ),
-        Term::Struct => row(
-            alloc,
-            &[Symbol::Want(Term::Name), Symbol::Tagged, Symbol::File],
-        ),
-        Term::Void => row(
-            alloc,
-            &[
-                Symbol::Want(Term::Name),
-                Symbol::Want(Term::Open),
-                Symbol::Parameters,
-                Symbol::AfterHead,
-                Symbol::File,
-            ],
-        ),
-        _ => based(alloc, &[Symbol::Outer, Symbol::File], term),
-    }
-}
-
-fn typedef_named(alloc: Global, term: Term) -> Row
-    ensures { IfOk result (λ row. row ≡ typedef_named term) }
-{
-    match term {
-        Term::Name => row(alloc, &[Symbol::Want(Term::Semicolon)]),
-        Term::OpenBrace => row(
-            alloc,
-            &[
-                Symbol::Field,
-                Symbol::MoreFields,
-                Symbol::Want(Term::Name),
-                Symbol::Want(Term::Semicolon),
-            ],
-        ),
-        _ => Ok(None),
-    }
-}
-
-fn typedef(alloc: Global, term: Term) -> Row
-    ensures { IfOk result (λ row. row ≡ typedef term) }
-{
-    match term {
-        Term::Name => row(alloc, &[Symbol::TypedefNamed]),
-        Term::OpenBrace => row(
-            alloc,
-            &[
-                Symbol::Field,
-                Symbol::MoreFields,
-                Symbol::Want(Term::Name),
-                Symbol::Want(Term::Semicolon),
-            ],
-        ),
-        _ => Ok(None),
-    }
-}
-
-fn tagged(alloc: Global, term: Term) -> Row
-    ensures { IfOk result (λ row. row ≡ tagged term) }
-{
-    match term {
-        Term::Semicolon => row(alloc, &[]),
-        Term::OpenBrace => row(
-            alloc,
-            &[
-                Symbol::Field,
-                Symbol::MoreFields,
-                Symbol::Want(Term::Semicolon),
-            ],
-        ),
-        _ => starred(alloc, &[Symbol::AfterOuter], term),
-    }
-}
-
-fn field(alloc: Global, term: Term) -> Row
-    ensures { IfOk result (λ row. row ≡ field term) }
-{
-    based(alloc, &[Symbol::StarredName, Symbol::MoreNames], term)
-}
-
-fn more_fields(alloc: Global, term: Term) -> Row
-    ensures { IfOk result (λ row. row ≡ more_fields term) }
-{
-    match term {
-        Term::CloseBrace => row(alloc, &[]),
-        _ => followed(alloc, field(alloc, term)?, &[Symbol::MoreFields]),
-    }
-}
-
-fn more_names(alloc: Global, term: Term) -> Row
-    ensures { IfOk result (λ row. row ≡ more_names term) }
-{
-    match term {
-        Term::Comma => row(alloc, &[Symbol::StarredName, Symbol::MoreNames]),
-        Term::Semicolon => row(alloc, &[]),
-        _ => Ok(None),
-    }
-}
-
-fn more_globals(alloc: Global, term: Term) -> Row
-    ensures { IfOk result (λ row. row ≡ more_globals term) }
-{
-    match term {
-        Term::Comma => row(alloc, &[Symbol::Global]),
-        Term::Semicolon => row(alloc, &[]),
-        _ => Ok(None),
-    }
-}
-
-fn after_global(alloc: Global, term: Term) -> Row
-    ensures { IfOk result (λ row. row ≡ after_global term) }
-{
-    match term {
-        Term::Put => row(alloc, &[Symbol::Const, Symbol::MoreGlobals]),
-        _ => more_globals(alloc, term),
-    }
-}
-
-fn after_outer(alloc: Global, term: Term) -> Row
-    ensures { IfOk result (λ row. row ≡ after_outer term) }
-{
-    match term {
-        Term::Open => row(alloc, &[Symbol::Parameters, Symbol::AfterHead]),
-        _ => after_global(alloc, term),
-    }
-}
-
-fn constant(alloc: Global, term: Term) -> Row
-    ensures { IfOk result (λ row. row ≡ constant term) }
-{
-    match term {
-        Term::Minus => row(alloc, &[Symbol::Want(Term::Number)]),
-        Term::Number => row(alloc, &[]),
-        Term::Null => row(alloc, &[]),
-        Term::Eof => row(alloc, &[]),
-        _ => Ok(None),
-    }
-}
-
-fn parameters(alloc: Global, term: Term) -> Row
-    ensures { IfOk result (λ row. row ≡ parameters term) }
-{
-    match term {
-        Term::Close => row(alloc, &[]),
-        Term::Void => row(alloc, &[Symbol::Want(Term::Close)]),
-        _ => based(alloc, &[Symbol::AfterBase], term),
-    }
-}
-
-fn more_parameters(alloc: Global, term: Term) -> Row
-    ensures { IfOk result (λ row. row ≡ more_parameters term) }
-{
-    match term {
-        Term::Comma => row(alloc, &[Symbol::Parameter]),
-        Term::Close => row(alloc, &[]),
-        _ => Ok(None),
-    }
-}
-
-fn after_star(alloc: Global, term: Term) -> Row
-    ensures { IfOk result (λ row. row ≡ after_star term) }
-{
-    match term {
-        Term::Name => row(alloc, &[Symbol::MoreParameters]),
-        _ => more_parameters(alloc, term),
-    }
-}
-
-fn after_base(alloc: Global, term: Term) -> Row
-    ensures { IfOk result (λ row. row ≡ after_base term) }
-{
-    match term {
-        Term::Star => row(alloc, &[Symbol::AfterStar]),
-        _ => after_star(alloc, term),
-    }
-}
-
-fn after_head(alloc: Global, term: Term) -> Row
-    ensures { IfOk result (λ row. row ≡ after_head term) }
-{
-    match term {
-        Term::Semicolon => row(alloc, &[]),
-        Term::OpenBrace => row(alloc, &[Symbol::Pieces]),
-        _ => Ok(None),
-    }
-}
-
-/// What replaces a symbol behind a token of this term.
-#[tactic(auto, unfolding(crate::specs::Recogniser::takes))]
-pub fn takes(alloc: Global, symbol: Symbol, term: Term) -> Row
-    ensures { IfOk result (λ row. row ≡ takes symbol term) }
-{
-    match symbol {
-        Symbol::Want(wanted) => {
-            if same(wanted, term) {
-                row(alloc, &[])
-            } else {
-                Ok(None)
-            }
-        }
-        Symbol::Operand(part) => operand(alloc, part, term),
-        Symbol::After(part) => after(alloc, part, term),
-        Symbol::Right => right(alloc, term),
-        Symbol::Named => named(alloc, term),
-        Symbol::Opened(part) => opened(alloc, part, term),
-        Symbol::OpenedName(part) => opened_name(alloc, part, term),
-        Symbol::OpenedStar(part) => opened_star(alloc, part, term),
-        Symbol::Arguments => arguments(alloc, term),
-        Symbol::MoreArguments => more_arguments(alloc, term),
-        Symbol::Size => size(alloc, term),
-        Symbol::NextFactor => next_factor(alloc, term),
-        Symbol::Unit => unit(alloc, term),
-        Symbol::UnitWithin => unit_within(alloc, term),
-        Symbol::AfterUnit => after_unit(alloc, term),
-        Symbol::Local => starred(alloc, &[Symbol::AfterLocal], term),
-        Symbol::AfterLocal => after_local(alloc, term),
-        Symbol::MoreLocals => more_locals(alloc, term),
-        Symbol::Piece => piece(alloc, term),
-        Symbol::Begun => begun(alloc, term),
-        Symbol::Pieces => pieces(alloc, term),
-        Symbol::Otherwise => otherwise(alloc, term),
-        Symbol::Returned => returned(alloc, term),
-        Symbol::ForStart => for_start(alloc, term),
-        Symbol::ForBegun => for_begun(alloc, term),
-        Symbol::ForTest => for_test(alloc, term),
-        Symbol::ForStep => for_step(alloc, term),
-        Symbol::File => file(alloc, term),
-        Symbol::Typedef => typedef(alloc, term),
-        Symbol::TypedefNamed => typedef_named(alloc, term),
-        Symbol::Tagged => tagged(alloc, term),
-        Symbol::Field => field(alloc, term),
-        Symbol::MoreFields => more_fields(alloc, term),
-        Symbol::StarredName => starred(alloc, &[], term),
-        Symbol::MoreNames => more_names(alloc, term),
-        Symbol::Outer => starred(alloc, &[Symbol::AfterOuter], term),
-        Symbol::AfterOuter => after_outer(alloc, term),
-        Symbol::Global => starred(alloc, &[Symbol::AfterGlobal], term),
-        Symbol::AfterGlobal => after_global(alloc, term),
-        Symbol::MoreGlobals => more_globals(alloc, term),
-        Symbol::Const => constant(alloc, term),
-        Symbol::Parameters => parameters(alloc, term),
-        Symbol::Parameter => based(alloc, &[Symbol::AfterBase], term),
-        Symbol::AfterBase => after_base(alloc, term),
-        Symbol::AfterStar => after_star(alloc, term),
-        Symbol::MoreParameters => more_parameters(alloc, term),
-        Symbol::AfterHead => after_head(alloc, term),
-    }
-}
-
-/// Whether nothing may stand for a symbol.
-#[tactic(auto, unfolding(crate::specs::Recogniser::may_end))]
-pub fn may_end(symbol: Symbol) -> bool
-    ensures { result ≡ may_end symbol }
-{
-    match symbol {
-        Symbol::After(Part::Whole) => true,
-        Symbol::After(Part::Factor) => true,
-        Symbol::Named => true,
-        Symbol::AfterUnit => true,
-        Symbol::Otherwise => true,
-        Symbol::File => true,
-        _ => false,
     }
 }

@@ -1,5 +1,5 @@
 -- The parameters that are left, behind those so far, are read as all.
-use Rattle.std.proofs.Common.{◌≡◌, ◌-◌, length, []}
+use Rattle.std.proofs.Common.{◌≡◌, ◌-◌}
 use Rattle.c_parser.specs.ReadFile.{read_more_params}
 use Rattle.c_parser.specs.Loops.{looped}
 use Rattle.c_parser.specs.FileLoops.{param_turn}

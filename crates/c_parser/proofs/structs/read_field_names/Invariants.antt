@@ -1,5 +1,5 @@
 -- The fields that are left, behind those so far, are read as all.
-use Rattle.std.proofs.Common.{◌≡◌, ◌-◌, length, []}
+use Rattle.std.proofs.Common.{◌≡◌, ◌-◌, length}
 use Rattle.c_parser.specs.ReadFile.{read_field_names}
 use Rattle.c_parser.specs.Loops.{looped}
 use Rattle.c_parser.specs.FileLoops.{field_name_turn}
