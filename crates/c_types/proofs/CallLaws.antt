@@ -9,7 +9,7 @@ use Rattle.c_tree.specs.declared.program.FunDef.{FunDef}
 use Rattle.c_tree.specs.declared.program.Item.{fold-roll-Item}
 use Rattle.c_tree.specs.declared.program.Item.TheVariants as item
 use Rattle.c_tree.specs.declared.program.Item.TheOpen.{If, For}
-use Rattle.c_types.specs.UserCalls.{Here, item_calls, arm_calls, block_calls, piece_calls, head_calls, from_option, calls_in, piece_calls_in, item_calls_in, arm_calls_in, calls_from}
+use Rattle.c_tree.specs.UserCalls.{Here, item_calls, arm_calls, block_calls, piece_calls, head_calls, from_option, calls_in, piece_calls_in, item_calls_in, arm_calls_in, calls_from}
 
 pub block_opens : (f : ℕ) (b : Block) → calls_in f b ≡ flat_map (piece_calls_in f) (out-Block b).items
 block_opens f b = fold_out-Block Here Here Here Here (item_calls f) arm_calls block_calls piece_calls b ∙ flat_map-map (λ c. c) (piece_calls_in f) (out-Block b).items

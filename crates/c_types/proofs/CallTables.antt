@@ -5,9 +5,9 @@ use Rattle.std.proofs.lemmas.Grind.{get_or-set_at}
 use Rattle.std.proofs.lemmas.List.{length-set, get_or-set_other, length-replicate, get_or-replicate, map-append}
 use Rattle.std.proofs.lemmas.List.Elements.{filter_more}
 use Rattle.std.proofs.lemmas.List.Sums.{count_by_more_yes, count_by_more_no}
-use Rattle.c_types.specs.Cycles.{ExistIn}
+use Rattle.c_tree.specs.Cycles.{ExistIn}
 use Rattle.c_types.specs.Peeling.{calls_to, callees_of, IsCounted, AreRows}
-use Rattle.c_types.specs.declared.cycles.UserCall.{UserCall}
+use Rattle.c_tree.specs.declared.control.UserCall.{UserCall}
 
 pub counted_none : (n : ℕ) (counts : List ℕ) → counts ≡ replicate n 0 → IsCounted n counts []
 counted_none n counts e = record {

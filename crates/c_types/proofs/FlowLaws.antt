@@ -2,9 +2,9 @@
 use Rattle.std.proofs.Common.{◌≡◌, ℕ, ◌+◌, ◌<◌, Bool, true, false, List, [], ◌∷◌, ◌++◌, length, get_or, map, take, refl, sym, ap, ◌∙◌}
 use Rattle.std.proofs.lemmas.List.{map-append, take_more}
 use Rattle.c_tree.specs.declared.program.Block.{Block, out-Block, fold_out-Block}
-use Rattle.c_types.specs.Flow.{followed, sequence, goes_on, item_flow, arm_flow, block_flow, piece_flow, flow_of, piece_flow_of}
-use Rattle.c_types.specs.declared.flow.Edges.{Edges}
-use Rattle.c_types.specs.declared.flow.Flow.{Flow}
+use Rattle.c_tree.specs.Flow.{followed, sequence, goes_on, item_flow, arm_flow, block_flow, piece_flow, flow_of, piece_flow_of}
+use Rattle.c_tree.specs.declared.control.Edges.{Edges}
+use Rattle.c_tree.specs.declared.control.Flow.{Flow}
 
 assoc_cases : (a b c d e f : Bool) → followed (followed (record { ends = a; breaks = b }) (record { ends = c; breaks = d })) (record { ends = e; breaks = f }) ≡ followed (record { ends = a; breaks = b }) (followed (record { ends = c; breaks = d }) (record { ends = e; breaks = f }))
 assoc_cases true true true d e f = refl

@@ -1,9 +1,20 @@
+mod ArgumentLaws
+mod BlockLaws
 mod CallLaws
 mod CallTables
-mod Cyclic
-mod FlowLaws
-mod Live
-mod Peeled
-mod Zeros
 pub mod FaultLemmas
+mod FlowLaws
+mod FunctionLaws
+pub mod FunctionRules
+mod InTurnLaws
+mod JudgedLaws
+mod Live
+pub mod LooseJumps
+pub mod Numbering
+pub mod NumberingCalls
+pub mod NumberingLeaves
+pub mod NumberingTops
+mod Peeled
 pub mod TableLemmas
+mod StatementLaws
+mod Zeros

@@ -4,41 +4,22 @@ use Rattle.std.specs.Prelude.{count_by, nat_eq, slice_get}
 use Rattle.std.specs.List.{All, Contains, IsDistinct, fold, list_any}
 use Rattle.std.proofs.lemmas.Bool.{eqb-true, eqb-false, eq-eqb, ltb-true, ltb-false}
 use Rattle.std.proofs.lemmas.List.{get_or_default, take_more}
-use Rattle.std.proofs.lemmas.List.Elements.{All-contains, All-filter, All-from_recursion, All-map, All-weaker, All-contains_itself, Contains-append_right, filter_passes}
+use Rattle.std.proofs.lemmas.List.Elements.{All-contains, All-filter, All-from_recursion, All-map, All-weaker, Contains-append_right}
 use Rattle.std.proofs.lemmas.List.Folds.{Any-from_list_any, list_any-append, list_any_at}
 use Rattle.std.proofs.lemmas.List.Sums.{get_or-le-sum_by}
 use Rattle.std.proofs.lemmas.Option.{get_or_from_slice_get}
 use Rattle.std.proofs.lemmas.Map.Keys.{IsDistinct-head, IsDistinct-tail}
 use Rattle.std.proofs.lemmas.Map.Steps.{length-le_from_distinct_below}
 use Rattle.std.proofs.lemmas.Map.Views.{Contains-from_any}
-use Rattle.c_types.specs.Cycles.{IsCyclic, ExistIn}
+use Rattle.c_tree.specs.Cycles.{IsCyclic, ExistIn}
 use Rattle.c_types.specs.Peeling.{calls_to, callees_of, without_callers, IsCounted, IsPeeled, IsOwed, AreRows, AreZeros, is_positive, taken_call}
 use Rattle.c_types.specs.declared.cycles.Peeling.{Peeling}
-use Rattle.c_types.specs.declared.cycles.UserCall.{UserCall}
-use Rattle.c_types.proofs.Cyclic.{cyclic_among, cyclic_without, cyclic_called, first_call}
+use Rattle.c_tree.specs.declared.control.UserCall.{UserCall}
+use Rattle.c_tree.proofs.Filtered.{filter_from, filter_test, filter_keeps}
+use Rattle.c_tree.proofs.Cyclic.{cyclic_among, cyclic_without, cyclic_called, first_call}
 use Rattle.c_types.proofs.Peeled.{count-cons, fold_length, fold_counts, fold_zeros, fold_take}
 
--- What a filter keeps, and what a count says of a list.
-
-pub filter_from : {X : Type 0} (p : X → Bool) (xs : List X) (x : X) → Contains (filter p xs) x → Contains xs x
-filter_from p xs x h = All-contains (Contains xs) (filter p xs) x (All-filter p (Contains xs) xs (All-contains_itself xs)) h
-
-pub filter_test : {X : Type 0} (p : X → Bool) (xs : List X) (x : X) → Contains (filter p xs) x → p x ≡ true
-filter_test p xs x h = All-contains (λ y. p y ≡ true) (filter p xs) x (filter_passes p xs) h
-
-past : {X : Type 0} (b : Bool) (y : X) (ys : List X) (x : X) → Contains ys x → Contains (cond b (y ∷ ys) ys) x
-past true y ys x h = Contains-append_right (y ∷ []) ys x h
-past false y ys x h = h
-
-filter_at : {X : Type 0} (p : X → Bool) (xs : List X) (k : ℕ) (x : X) → k < length xs → get_or xs k x ≡ x → p x ≡ true → Contains (filter p xs) x
-filter_at p [] k x below e passes = absurd (omega arith)
-filter_at p (y ∷ ys) zero x below e passes =
-    let yes : p y ≡ true = ap p e ∙ passes in
-    subst (λ b. Contains (cond b (y ∷ filter p ys) (filter p ys)) x) (sym yes) (zero, omega arith, e)
-filter_at p (y ∷ ys) (suc k) x below e passes = past (p y) y (filter p ys) x (filter_at p ys k x (omega arith) e passes)
-
-pub filter_keeps : {X : Type 0} (p : X → Bool) (xs : List X) (x : X) → Contains xs x → p x ≡ true → Contains (filter p xs) x
-filter_keeps p xs x h passes = filter_at p xs h.0 x h.1 h.2 passes
+-- What a count says of a list.
 
 pub counted_one : {X : Type 0} (p : X → Bool) (xs : List X) (x : X) → Contains xs x → p x ≡ true → 1 ≤ count_by p xs
 counted_one p xs x h passes =

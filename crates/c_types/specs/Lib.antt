@@ -1,6 +1,14 @@
-pub mod Cycles
+pub mod Blocks
+pub mod Calls
+pub mod Expressions
 pub mod Faults
-pub mod Flow
+pub mod Fits
+pub mod Functions
+pub mod InTurn
+pub mod Judged
 pub mod Peeling
+pub mod Program
+pub mod Scopes
+pub mod Statements
+pub mod Structs
 pub mod Tables
-pub mod UserCalls

@@ -1,7 +1,7 @@
 -- Taking away the functions that nobody calls, one after another, with their calls.
 use Rattle.std.specs.Prelude.{◌≡◌, ℕ, ◌-◌, ◌<◌, ◌≤◌, ◌==◌, Bool, cond, not, List, [], ◌∷◌, ◌++◌, length, map, filter, slice_index, slice_index_or, slice_set, count_by, nat_eq, nat_lt}
 use Rattle.std.specs.List.{All, Contains, IsDistinct, list_any}
-use Rattle.c_types.specs.declared.cycles.UserCall.{UserCall}
+use Rattle.c_tree.specs.declared.control.UserCall.{UserCall}
 use Rattle.c_types.specs.declared.cycles.Peeling.{Peeling}
 
 -- how many of the calls are of f

@@ -1,19 +1,12 @@
 // The first call that closes a cycle of functions, by taking away functions that nobody calls.
 ghost use Rattle.std.specs.Prelude.{◌≡◌, ◌<◌, OnOk, IfOk, IsTrue, ◌↔◌, MatchOption, length, slice_index};
 ghost use Rattle.std.specs.List.{fold, list_any};
-ghost use Rattle.c_types.specs.Cycles.{ClosesCycle, IsCyclic, ExistIn};
+ghost use Rattle.c_tree.specs.Cycles.{ClosesCycle, IsCyclic, ExistIn};
 ghost use Rattle.c_types.specs.Peeling.{AreRows, AreZeros, IsCounted, IsOwed, is_positive, taken_call};
 
+use c_tree::UserCall;
 use mf_list::{Memory, Seq};
 use std::alloc::{AllocError, Global};
-
-/// A call of a function by a function, each by its number; `at` is the offset of the callee's name.
-#[derive(Clone, Copy, Debug, PartialEq, Eq)]
-pub struct UserCall {
-    pub caller: usize,
-    pub callee: usize,
-    pub at: usize,
-}
 
 /// Calls while the functions that nobody calls are taken away with theirs: how many of the calls
 /// left each function gets, and the functions that get none, in the order in which that was found.

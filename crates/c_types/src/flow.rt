@@ -1,24 +1,9 @@
 // Where control may go in a block.
 ghost use Rattle.std.specs.Prelude.{◌≡◌, map};
-ghost use Rattle.c_types.specs.Flow.{along, arm_flow_of, arms_flow, both, combined_edges, edges_of, edges_or_hold, either, flow_of, flow_or, followed, item_flow_of, loop, piece_flow_of, sequence, signed_edges};
+ghost use Rattle.c_tree.specs.Flow.{along, arm_flow_of, arms_flow, both, combined_edges, edges_of, edges_or_hold, either, flow_of, flow_or, followed, item_flow_of, loop, piece_flow_of, sequence, signed_edges};
 
-use c_tree::{Arm, Block, Expr, Item, Oper, Piece, Sign};
+use c_tree::{Arm, Block, Edges, Expr, Flow, Item, Oper, Piece, Sign};
 use sqlite_items::Items;
-
-/// The edges of a test that may be taken: where it holds, and where it fails.
-#[derive(Clone, Copy)]
-pub struct Edges {
-    pub holds: bool,
-    pub fails: bool,
-}
-
-/// Whether a path may reach the end of a part of a function, and whether one may leave it by a
-/// `break` of a loop around it.
-#[derive(Clone, Copy)]
-pub struct Flow {
-    pub ends: bool,
-    pub breaks: bool,
-}
 
 fn both() -> Edges
     ensures { result ≡ both }
@@ -89,40 +74,39 @@ fn edges_or_hold(test: &Option<Expr>) -> Edges
     }
 }
 
-impl Flow {
-    fn followed(self, next: Flow) -> Flow
-        ensures { result ≡ followed self next }
-    {
-        if self.ends {
-            Flow {
-                ends: next.ends,
-                breaks: self.breaks || next.breaks,
-            }
-        } else {
-            self
-        }
-    }
-
-    fn along(self, taken: bool) -> Flow
-        ensures { result ≡ along taken self }
-    {
-        if taken {
-            self
-        } else {
-            Flow {
-                ends: false,
-                breaks: false,
-            }
-        }
-    }
-
-    fn either(self, other: Flow) -> Flow
-        ensures { result ≡ either self other }
-    {
+/// What stands behind a part is reached where the part's end is.
+fn followed(first: Flow, next: Flow) -> Flow
+    ensures { result ≡ followed first next }
+{
+    if first.ends {
         Flow {
-            ends: self.ends || other.ends,
-            breaks: self.breaks || other.breaks,
+            ends: next.ends,
+            breaks: first.breaks || next.breaks,
         }
+    } else {
+        first
+    }
+}
+
+fn along(taken: bool, part: Flow) -> Flow
+    ensures { result ≡ along taken part }
+{
+    if taken {
+        part
+    } else {
+        Flow {
+            ends: false,
+            breaks: false,
+        }
+    }
+}
+
+fn either(part: Flow, other: Flow) -> Flow
+    ensures { result ≡ either part other }
+{
+    Flow {
+        ends: part.ends || other.ends,
+        breaks: part.breaks || other.breaks,
     }
 }
 
@@ -145,7 +129,7 @@ pub fn flow_of(block: &Block) -> Flow
     };
     let pieces = block.items.as_slice();
     for piece in pieces {
-        flow = flow.followed(piece_flow(piece));
+        flow = followed(flow, piece_flow(piece));
     }
     flow
 }
@@ -197,7 +181,7 @@ fn arms_flow(arms: &Items<Arm>, last: Flow) -> Flow
     for arm in arms.iter().rev() {
         let test = edges_of(&arm.test);
         let body = flow_of(&arm.body);
-        flow = body.along(test.holds).either(flow.along(test.fails));
+        flow = either(along(test.holds, body), along(test.fails, flow));
     }
     flow
 }

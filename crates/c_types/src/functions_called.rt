@@ -1,10 +1,9 @@
 // The calls of users' functions in a program, in the order of the text.
 ghost use Rattle.std.specs.Prelude.{◌≡◌, ◌++◌, IfOk, OnOk};
 ghost use Rattle.std.specs.List.{flat_map};
-ghost use Rattle.c_types.specs.UserCalls.{arm_calls_in, call_calls, calls_in, declr_calls, from_option, head_calls, item_calls_in, piece_calls_in, right_calls, simple_calls, start_calls, user_calls};
+ghost use Rattle.c_tree.specs.UserCalls.{arm_calls_in, call_calls, calls_in, declr_calls, from_option, head_calls, item_calls_in, piece_calls_in, right_calls, simple_calls, start_calls, user_calls};
 
-use crate::cycles::UserCall;
-use c_tree::{Arm, Block, Call, Declr, ForHead, Item, Piece, Program, Right, Start};
+use c_tree::{Arm, Block, Call, Declr, ForHead, Item, Piece, Program, Right, Start, UserCall};
 use mf_list::{Memory, Seq};
 use sqlite_items::Items;
 use std::alloc::Global;
@@ -13,7 +12,8 @@ fn add_call(list: &mut Seq<UserCall>, caller: usize, call: &Call) -> Result<(), 
     ensures { OnOk result (list.new ≡ list.old ++ call_calls caller call.now) }
 {
     match call {
-        Call::User(_, callee, _, at) => list.push(UserCall {
+        Call::User(number, callee, _, at) => list.push(UserCall {
+            number: *number,
             caller,
             callee: *callee,
             at: *at,

@@ -5,7 +5,7 @@ use Rattle.std.specs.declared.cmp.Ordering.{Ordering}
 use Rattle.std.specs.declared.cmp.Ordering.TheVariants.{Less, Equal, Greater}
 use Rattle.std.proofs.lemmas.List.Elements.{All-more, All-weaker}
 use Rattle.std.proofs.lemmas.Map.Keys.{ge_from_not_lt, le_from_is_le}
-use Rattle.c_types.specs.declared.cycles.UserCall.{UserCall}
+use Rattle.c_tree.specs.declared.control.UserCall.{UserCall}
 use Rattle.c_types.proofs.cycles.bound_of.Goals as goal
 
 le_too : (o : Ordering) → is_lt o ≡ true → is_le o ≡ true
@@ -22,12 +22,12 @@ above_both a b m e = subst (λ k. (a ≤ k) × (b ≤ k)) (sym e) (above_cases a
 
 pub loop-call-preserved : goal.loop-call-preserved
 loop-call-preserved c =
-    let d : UserCall = get_or c.args.calls.now c.loop-call.call-index (record { caller = 0; callee = 0; at = 0 }) in
+    let d : UserCall = get_or c.args.calls.now c.loop-call.call-index (record { number = 0; caller = 0; callee = 0; at = 0 }) in
     let one = above_both c.loop-call.last d.caller c.max.result c.max.ensures in
     let two = c.max-last.ensures in
     let a = one.0 in
     let b = one.1 in
-    All-more (λ (d : UserCall). (d.caller ≤ c.max-last.result) × (d.callee ≤ c.max-last.result)) c.args.calls.now c.loop-call.call-index (record { caller = 0; callee = 0; at = 0 }) c.loop-call-test.true
+    All-more (λ (d : UserCall). (d.caller ≤ c.max-last.result) × (d.callee ≤ c.max-last.result)) c.args.calls.now c.loop-call.call-index (record { number = 0; caller = 0; callee = 0; at = 0 }) c.loop-call-test.true
     (All-weaker (λ (d : UserCall). (d.caller ≤ c.loop-call.last) × (d.callee ≤ c.loop-call.last)) (λ (d : UserCall). (d.caller ≤ c.max-last.result) × (d.callee ≤ c.max-last.result))
     (λ d h. let x = h.0 in let y = h.1 in (omega arith, omega arith)) (take c.loop-call.call-index c.args.calls.now) c.loop-call.invariant)
     (omega arith, omega arith)

@@ -1,5 +1,5 @@
 use Rattle.std.proofs.Common.{◌-◌, ◌<◌, ◌≤◌, length, take}
-use Rattle.c_types.specs.Cycles.{IsCyclic}
+use Rattle.c_tree.specs.Cycles.{IsCyclic}
 use Rattle.c_types.proofs.cycles.first_cycle.Given as goal
 
 abbrev pub invariant-loop-open : goal.invariant-loop-open

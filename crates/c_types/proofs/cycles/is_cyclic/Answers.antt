@@ -1,7 +1,7 @@
 use Rattle.std.proofs.Common.{◌≡◌, ℕ, ◌+◌, ◌<◌, ◌≤◌, Bool, true, false, List, length, get_or, take, refl, sym, ap, subst, ◌∙◌, arith, take_all}
 use Rattle.std.specs.List.{fold, list_any}
 use Rattle.std.proofs.lemmas.Option.{get_or_from_slice_get}
-use Rattle.c_types.specs.Cycles.{IsCyclic}
+use Rattle.c_tree.specs.Cycles.{IsCyclic}
 use Rattle.c_types.specs.Peeling.{AreZeros, IsPeeled, IsOwed, callees_of, is_positive, taken_call, without_callers}
 use Rattle.c_types.specs.declared.cycles.Peeling.{Peeling}
 use Rattle.c_types.proofs.Live.{start_peeled, start_cyclic, row_read, turn_owed, turn_peeled, turn_cyclic, turn_within, uncalled_few, uncalled_here, some_left, none_left}

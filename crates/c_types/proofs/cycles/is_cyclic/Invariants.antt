@@ -1,5 +1,5 @@
 use Rattle.std.proofs.Common.{◌≤◌, ◌-◌, take, length}
-use Rattle.c_types.specs.Cycles.{IsCyclic}
+use Rattle.c_tree.specs.Cycles.{IsCyclic}
 use Rattle.c_types.specs.Peeling.{IsPeeled, without_callers}
 use Rattle.c_types.proofs.cycles.is_cyclic.Given as goal
 

@@ -1,5 +1,5 @@
 use Rattle.std.proofs.Common.{map, take, sym, ap, ◌∙◌, take_all}
-use Rattle.c_types.specs.Flow.{followed, piece_flow_of, sequence}
+use Rattle.c_tree.specs.Flow.{followed, piece_flow_of, sequence}
 use Rattle.c_types.proofs.FlowLaws.{sequence_more, flow_opens}
 use Rattle.c_types.proofs.flow.+flows.Goals as goal
 

@@ -1,5 +1,5 @@
 use Rattle.std.proofs.Common.{◌≡◌, take, map, reverse}
-use Rattle.c_types.specs.Flow.{arm_flow_of, arms_flow, piece_flow_of, sequence}
+use Rattle.c_tree.specs.Flow.{arm_flow_of, arms_flow, piece_flow_of, sequence}
 use Rattle.c_types.proofs.flow.+flows.Given as goal
 
 abbrev pub invariant-arms_flow-loop-arm : goal.invariant-arms_flow-loop-arm

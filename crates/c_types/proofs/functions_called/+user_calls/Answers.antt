@@ -1,6 +1,6 @@
 use Rattle.std.proofs.Common.{◌≡◌, ◌++◌, flat_map, ap, sym, ◌∙◌, append_assoc, take_all}
 use Rattle.std.proofs.lemmas.Result.{on_ok_weaker}
-use Rattle.c_types.specs.UserCalls.{arm_calls_in, calls_in, from_option, head_calls, item_calls_in, piece_calls_in}
+use Rattle.c_tree.specs.UserCalls.{arm_calls_in, calls_in, from_option, head_calls, item_calls_in, piece_calls_in}
 use Rattle.c_types.proofs.CallLaws.{block_opens, if_opens, for_opens}
 use Rattle.c_types.proofs.functions_called.+user_calls.Goals as goal
 

@@ -1,5 +1,5 @@
 use Rattle.std.proofs.Common.{◌≡◌, ◌++◌, take, flat_map}
-use Rattle.c_types.specs.UserCalls.{arm_calls_in, piece_calls_in}
+use Rattle.c_tree.specs.UserCalls.{arm_calls_in, piece_calls_in}
 use Rattle.c_types.proofs.functions_called.+user_calls.Given as goal
 
 abbrev pub invariant-add_arms-loop-arm : goal.invariant-add_arms-loop-arm

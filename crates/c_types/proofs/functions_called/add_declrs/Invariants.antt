@@ -1,5 +1,5 @@
 use Rattle.std.proofs.Common.{◌≡◌, ◌++◌, take, flat_map}
-use Rattle.c_types.specs.UserCalls.{declr_calls}
+use Rattle.c_tree.specs.UserCalls.{declr_calls}
 use Rattle.c_types.proofs.functions_called.add_declrs.Given as goal
 
 abbrev pub invariant-loop-declr : goal.invariant-loop-declr

@@ -1,5 +1,5 @@
 use Rattle.std.proofs.Common.{◌≡◌, ◌++◌, take, flat_map}
-use Rattle.c_types.specs.UserCalls.{start_calls}
+use Rattle.c_tree.specs.UserCalls.{start_calls}
 use Rattle.c_types.proofs.functions_called.add_starts.Given as goal
 
 abbrev pub invariant-loop-start : goal.invariant-loop-start

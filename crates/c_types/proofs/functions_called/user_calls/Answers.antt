@@ -1,6 +1,6 @@
 use Rattle.std.proofs.Common.{◌++◌, take, ◌∙◌, ap, sym}
 use Rattle.c_tree.specs.declared.program.FunDef.{FunDef}
-use Rattle.c_types.specs.UserCalls.{calls_in, calls_from}
+use Rattle.c_tree.specs.UserCalls.{calls_in, calls_from}
 use Rattle.c_types.proofs.CallLaws.{from_more}
 use Rattle.c_types.proofs.functions_called.user_calls.Goals as goal
 

@@ -1,5 +1,5 @@
 use Rattle.std.proofs.Common.{◌≡◌, take}
-use Rattle.c_types.specs.UserCalls.{calls_from}
+use Rattle.c_tree.specs.UserCalls.{calls_from}
 use Rattle.c_types.proofs.functions_called.user_calls.Given as goal
 
 abbrev pub invariant-loop-caller : goal.invariant-loop-caller
