@@ -1,0 +1,11 @@
+pub mod Altered
+pub mod Arms
+pub mod FreeLists
+pub mod Gathered
+pub mod LoneTests
+pub mod Paths
+pub mod Prints
+pub mod Ranges
+pub mod RunSteps
+pub mod SlotLists
+pub mod Walks

@@ -1,0 +1,5 @@
+pub mod Changes
+pub mod Layers
+pub mod Lists
+pub mod Meant
+pub mod Steps
