@@ -1,0 +1,10 @@
+mod Numbered
+pub mod Listed
+pub mod Invoked
+pub mod Numbers
+pub mod Follows
+mod Starts
+pub mod Lockstep
+pub mod Instance
+pub mod MetRuns
+pub mod FilledGraphs

@@ -1,0 +1,5 @@
+pub mod Actions
+pub mod Nodes
+pub mod Moves
+pub mod Met
+pub mod Filled

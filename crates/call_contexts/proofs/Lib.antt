@@ -1,0 +1,5 @@
+pub mod Has
+pub mod CallLaws
+mod Visits
+pub mod ContextLaws
+pub mod WellFormedCalls
