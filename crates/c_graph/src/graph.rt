@@ -1,3 +1,4 @@
+// The types of a control flow graph: nodes, actions, ways and edges.
 use c_tree::{Expr, Free, Simple, Size};
 use mf_list::Seq;
 
