@@ -88,6 +88,16 @@ model_of clauses bits below all none = record {
   ];
 }
 
+not_both : (b : Bool) → Some b ≡ Some (not b) → ⊥
+not_both true e = cc
+not_both false e = cc
+
+-- bits that satisfy all clauses make none of them false
+pub model_not_false : (clauses : Clauses) (bits : List Bool) → IsModel clauses bits → HasFalse bits clauses.list → ⊥
+model_not_false clauses bits m h =
+    let s = m.satisfies h.0 h.1 in
+    not_both s.0.yes (sym s.2 ∙ All-contains (λ (l : Lit). MakesTrue bits (opposite l)) h.0 s.0 h.2 s.1)
+
 pub branch_clashes : (clauses log : List (List Lit)) (bits : List Bool) → Contains log (against (bits ++ false ∷ [])) → Contains log (against (bits ++ true ∷ [])) → Clashes (clauses ++ log) (against bits)
 branch_clashes clauses log bits below above =
     clashes_split (against bits) (record { var = length bits; yes = true }) (record { var = length bits; yes = false }) refl

@@ -87,7 +87,7 @@ fn search(alloc: Global, clauses: &Clauses, hint: &[bool], log: &mut Log) -> Res
 
 fn is_model(clauses: &Clauses, bits: &[bool]) -> bool
     requires { AreBelow clauses.now.vars clauses.now.list }
-    ensures { IsTrue result → IsModel clauses.now bits.now }
+    ensures { IsTrue result ↔ IsModel clauses.now bits.now }
 {
     if bits.len() != clauses.vars || plain::has_false(clauses, bits) {
         return false;
