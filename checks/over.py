@@ -27,9 +27,9 @@ def below(crates, libraries):
     return found
 
 
-def build(name, libraries, program, checkout=ROOT):
-    """Proves and builds a program of one file over libraries of a checkout, below memfix-build of this one, and answers
-    its path. Builds that are still right are kept."""
+def prepare(name, libraries, program, checkout=ROOT):
+    """Copies the crates that a program of one file over libraries of a checkout needs, below memfix-build of this one, and
+    answers the program's folder. What earlier builds left there is kept."""
     top, crates = os.path.join(ROOT, "memfix-build", name), uses(checkout)
     needed = below(crates, libraries)
     for crate in needed:
@@ -44,10 +44,24 @@ def build(name, libraries, program, checkout=ROOT):
     for path, text in ((os.path.join(folder, "src", "main.rt"), program), (os.path.join(top, "crates.txt"), "".join(lines))):
         with open(path, "w", encoding="utf-8") as file:
             file.write(text)
+    return folder
+
+
+def build(name, libraries, program, checkout=ROOT):
+    """Proves and builds the program, and answers its path."""
+    folder = prepare(name, libraries, program, checkout)
     done = subprocess.run(["rt", "run", "--jobs", "1"], cwd=folder, input=b"int", capture_output=True)
     if done.returncode != 0:
         sys.exit(done.stdout.decode() + done.stderr.decode())
     return os.path.join(folder, "out", name)
+
+
+def tried(name, libraries, program, text):
+    """What the program writes for a text, run without a proof."""
+    done = subprocess.run(["rt", "try"], cwd=prepare(name, libraries, program), input=text, capture_output=True)
+    if done.returncode != 0:
+        sys.exit(done.stdout.decode() + done.stderr.decode())
+    return done.stdout.decode()
 
 
 def run(program, text, words=()):
