@@ -15,6 +15,7 @@ const MOST: usize = 1024;
 fn add_context(list: &mut Seq<Ctx>, context: Ctx) -> Result<(), Refusal>
     ensures ok { OnOk result (list.new ≡ list.old ++ context ∷ []) }
     ensures within { OnOk result (length list.old < 1024) }
+    ensures only { (l : Limit) → result ≡ Err (Refusal.Limit l) → l ≡ Limit.Contexts }
     ensures limit { result ≡ Err (Refusal.Limit Limit.Contexts) → 1024 ≤ length list.old }
 {
     if list.len() >= MOST {
@@ -43,6 +44,7 @@ fn visit(
 ) -> Result<(), Refusal>
     ensures ok { OnOk result (list.new ≡ list.old ++ visit rows.now depth (length list.old) fun home) }
     ensures within { length list.old ≤ 1024 → OnOk result (length list.new ≤ 1024) }
+    ensures only { (l : Limit) → result ≡ Err (Refusal.Limit l) → l ≡ Limit.Contexts }
     ensures limit { result ≡ Err (Refusal.Limit Limit.Contexts) → 1024 < length list.old + length (visit rows.now depth (length list.old) fun home) }
 {
     let Some(below) = depth.checked_sub(1) else {
@@ -63,6 +65,7 @@ fn visit_calls(
 ) -> Result<(), Refusal>
     ensures ok { OnOk result (list.new ≡ list.old ++ visit_calls (visit rows.now depth) me (length list.old) calls.now) }
     ensures within { length list.old ≤ 1024 → OnOk result (length list.new ≤ 1024) }
+    ensures only { (l : Limit) → result ≡ Err (Refusal.Limit l) → l ≡ Limit.Contexts }
     ensures limit { result ≡ Err (Refusal.Limit Limit.Contexts) → 1024 < length list.old + length (visit_calls (visit rows.now depth) me (length list.old) calls.now) }
 {
     for call in calls {
@@ -78,6 +81,7 @@ fn visit_calls(
 pub fn contexts(alloc: Global, program: &Program) -> Result<Contexts, Refusal>
     ensures ok { IfOk result (λ c. c.list ≡ contexts program.now) }
     ensures within { IfOk result (λ c. length c.list ≤ 1024) }
+    ensures only { (l : Limit) → result ≡ Err (Refusal.Limit l) → l ≡ Limit.Contexts }
     ensures limit { result ≡ Err (Refusal.Limit Limit.Contexts) → 1024 < length (contexts program.now) }
 {
     let rows = calls_by_function(alloc, program)?;
