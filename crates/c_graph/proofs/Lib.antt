@@ -8,3 +8,10 @@ pub mod Lockstep
 pub mod Instance
 pub mod MetRuns
 pub mod FilledGraphs
+mod PlacesApart
+mod WholeParts
+mod CallsStand
+mod Lands
+mod Braces
+mod Homes
+mod EdgeWays
