@@ -221,7 +221,7 @@ module _ (p : Program) (w : IsWellFormed p) where
   brace_ways k c path true offset e = leaves_ways k c path e
   brace_ways k c path false offset e = refl
 
-  action_ways : (k : ℕ) (c : Ctx) (path : List ℕ) (a : Instruction) → slice_get (contexts p) k ≡ Some c → spot_at p c.fun path ≡ AtAction a →
+  pub action_ways : (k : ℕ) (c : Ctx) (path : List ℕ) (a : Instruction) → slice_get (contexts p) k ≡ Some c → spot_at p c.fun path ≡ AtAction a →
       ActionWays p c (map (λ (l : Lead). l.way) (leads_of p (contexts p) k c.fun path a)) (action_of a)
   action_ways k c path (Unset x) e is = refl
   action_ways k c path (Assign place o value offset) e is = refl
@@ -251,7 +251,8 @@ module _ (p : Program) (w : IsWellFormed p) where
       subst (λ (z : Placed). (c : Ctx) × (slice_get (contexts p) z.node.ctx ≡ Some c) × NodeWays p c (map (λ (l : Lead). l.way) z.leads) z.node.kind) (sym (only_one h)) (context p.main None, main_first p (calls_in_order p w).calls, refl)
   exit_ways path _ y h = elim h [ ]
 
-  of_placed : (y : Placed) → IsPlaced p (contexts p) y → (c : Ctx) × (slice_get (contexts p) y.node.ctx ≡ Some c) × NodeWays p c (map (λ (l : Lead). l.way) y.leads) y.node.kind
+  -- the ways on from what stands at a node
+  pub of_placed : (y : Placed) → IsPlaced p (contexts p) y → (c : Ctx) × (slice_get (contexts p) y.node.ctx ≡ Some c) × NodeWays p c (map (λ (l : Lead). l.way) y.leads) y.node.kind
   of_placed y (in_context k c path e h) = placed_ways k c path (spot_at p c.fun path) y e refl h
   of_placed y (an_exit path h) = exit_ways path (spot_at p p.main path) y h
 

@@ -15,3 +15,4 @@ mod Lands
 mod Braces
 mod Homes
 mod EdgeWays
+mod EdgeEnds

@@ -1,6 +1,6 @@
 -- The edges of a graph: which lead on from what stands at a node, where they lead, and in which order they stand.
 use Rattle.std.specs.Prelude.{◌≡◌, ℕ, ◌<◌, ◌==◌, ◌⊎◌, Bool, true, false, List, [], ◌∷◌, map, length, slice_get, Option, None, Some}
-use Rattle.std.specs.List.{All, Contains, filter}
+use Rattle.std.specs.List.{All, AllPairs, Contains, filter}
 use Rattle.c_tree.specs.Typing.{has}
 use Rattle.c_tree.specs.declared.program.Program.{Program}
 use Rattle.c_meaning.specs.Place.{goes_back}
@@ -83,6 +83,5 @@ abbrev pub StandsBefore : Edge → Edge → Type 0
 StandsBefore e d = (e.from < d.from) ⊎ ((e.from ≡ d.from) × ((way_rank e.way < way_rank d.way) ⊎ ((way_rank e.way ≡ way_rank d.way) × (e.to < d.to))))
 
 -- each edge stands before all that follow it, so none comes twice
-abbrev pub Ascends : List Edge → Type 0
-Ascends [] = Unit {0}
-Ascends (e ∷ es) = All (StandsBefore e) es × Ascends es
+abbrev pub Ascends : Graph → Type 0
+Ascends g = AllPairs StandsBefore g.edges
