@@ -16,3 +16,4 @@ mod Braces
 mod Homes
 mod EdgeWays
 mod EdgeEnds
+mod Outcomes

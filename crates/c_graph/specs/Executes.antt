@@ -1,6 +1,6 @@
 -- What control does over an edge to the store of a machine, by kinds of edges; and what else may come of a node. Analyses state on
 -- it what is true of a run.
-use Rattle.std.specs.Prelude.{◌≡◌, ℕ, ◌==◌, ◌&&◌, Bool, true, false, not, ℤ, pos, negsuc, List, [], ◌∷◌, drop, length, slice_get, option_map, Option, None, Some, Result, Ok, Err}
+use Rattle.std.specs.Prelude.{◌≡◌, ℕ, ◌==◌, ◌&&◌, Bool, true, false, not, ℤ, pos, negsuc, List, [], ◌∷◌, ◌++◌, drop, length, slice_get, option_map, Option, None, Some, Result, Ok, Err}
 use Rattle.std.specs.List.{Contains, find}
 use Rattle.std.specs.Option.{option_and_then}
 use Rattle.c_tree.specs.Typing.{has}
@@ -122,7 +122,7 @@ pub record Executes (p : Program) (g : Graph) (e : Edge) (s t : Store) : Type 0 
 -- what stands at a node ends the run with a fault
 pub data Faults (p : Program) (s : Store) : NodeKind → Store → Type 0 where
   -- by one of the frees of a gap, the first that has a fault
-  by_free : (number : ℕ) (list : List Free) → is_over (all_freed list s).ending ≡ true → Faults p s (Gap number list) (all_freed list s)
+  by_free : (number : ℕ) (list : List Free) (kind : Kind) (offset : ℕ) → (all_freed list s).ending ≡ Fault kind offset true → Faults p s (Gap number list) (all_freed list s)
   -- by an action
   by_action : (a : Action) (i : Instruction) (kind : Kind) (offset : ℕ) → instruction_of a ≡ Some i → attempt p i s ≡ Err (Faulted kind offset) →
       Faults p s (Act a) (record s { ending = Fault kind offset false })
@@ -138,8 +138,19 @@ pub data Comes (p : Program) (g : Graph) (v : ℕ) (s : Store) : At Store → Ty
   goes : (e : Edge) (t : Store) → Contains g.edges e → e.from ≡ v → Executes p g e s t → Comes p g v s (stands e.to t)
   -- the run ends there with a fault
   faults : (n : Node) (t : Store) → slice_get g.nodes v ≡ Some n → Faults p s n.kind t → Comes p g v s (stands v t)
-  -- nothing changes, and nothing will
+  -- nothing changes
   rests : (n : Node) → slice_get g.nodes v ≡ Some n → Rests p s n.kind → Comes p g v s (stands v s)
+  -- nor where control is past all nodes
   past : slice_get g.nodes v ≡ None → Comes p g v s (stands v s)
-  -- behind the closing brace of a function with a result, where control doesn't come (6.9.1p12), it would be lost
+  -- it would be lost so behind the closing brace of a function with a result, where no edge leads on (6.9.1p12)
   is_lost : (n : Node) → slice_get g.nodes v ≡ Some n → n.kind ≡ Act action.Close → ((e : Edge) → Contains g.edges e → e.from ≡ v → ⊥) → Comes p g v s (stands (length g.nodes) s)
+
+-- sites
+
+-- the sites of objects behind an edge: a Made edge adds its first node
+abbrev pub sites_by : ℕ → Way → List ℕ → List ℕ
+sites_by v way.Made sites = sites ++ v ∷ []
+sites_by v w sites = sites
+
+abbrev pub sites_over : Edge → List ℕ → List ℕ
+sites_over e sites = sites_by e.from e.way sites

@@ -4,4 +4,5 @@ pub mod Moves
 pub mod Met
 pub mod Executes
 pub mod Ways
+pub mod Laws
 pub mod Filled
