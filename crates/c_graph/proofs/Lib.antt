@@ -16,4 +16,6 @@ mod Braces
 mod Homes
 mod EdgeWays
 mod EdgeEnds
-mod Outcomes
+pub mod Outcomes
+mod Births
+pub mod Kept

@@ -33,9 +33,9 @@ pub record HasLaws (p : Program) : Type 0 where
   pub goes : GoesByEdges p
   pub bears : BearsOnMade p
 
--- P holds of the start, and is kept by the begin of a step, over each edge, and by each fault
-pub record IsKept (p : Program) (P : ℕ → Store → List ℕ → Type 0) : Type 0 where
-  pub starts : (input : List ℕ) (fails : List Bool) → P 0 (store_of (start p input fails)) []
+-- P holds at the start of a run, and is kept by the begin of a step, over each edge, and by each fault
+pub record IsKept (p : Program) (input : List ℕ) (fails : List Bool) (P : ℕ → Store → List ℕ → Type 0) : Type 0 where
+  pub starts : P 0 (store_of (start p input fails)) []
   pub begins : (v : ℕ) (s : Store) (sites : List ℕ) → is_over s.ending ≡ false → P v s sites → P v (counted s) sites
   pub goes : (e : Edge) (s t : Store) (sites : List ℕ) → Contains (graph p (contexts p)).edges e → is_over s.ending ≡ false → Executes p (graph p (contexts p)) e s t → P e.from s sites → P e.to t (sites_over e sites)
   pub faults : (v : ℕ) (n : Node) (s t : Store) (sites : List ℕ) → slice_get (graph p (contexts p)).nodes v ≡ Some n → is_over s.ending ≡ false → Faults p s n.kind t → P v s sites → P v t sites
