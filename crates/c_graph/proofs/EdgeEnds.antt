@@ -37,7 +37,7 @@ use Rattle.c_graph.specs.Actions.{action_of}
 use Rattle.c_graph.specs.Executes.{ctx_at, callee_in, callee_in_kind, callee_at, enters_into, function_of, callee_of_leave}
 use Rattle.c_graph.specs.Moves.{enters}
 use Rattle.c_graph.specs.Nodes.{spot_at, next_at, Symbol, In, Out, Lead, lead, says, says_layer, way_said, on_leads, enter_leads, return_leads, leave_leads, leads_of, Placed, placed_at, exit_of, exit_at, all_placed, number_of, edge_of, edges_from, graph}
-use Rattle.c_graph.specs.Ways.{ways_at, LeavesBy, BraceWays, ActionWays, NodeWays, LeavesCallee, LeadsToNodes, way_rank, StandsBefore, Ascends, brace_leads}
+use Rattle.c_graph.specs.Ways.{ways_at, LeavesBy, BraceWays, ActionWays, NodeWays, IsGraphOf, LeavesBack, LeavesCallee, LeadsToNodes, way_rank, StandsBefore, Ascends, brace_leads}
 use Rattle.c_graph.proofs.Invoked.{call_of, spot_calls, invoked}
 use Rattle.c_graph.proofs.Numbers.{IsPlaced, in_context, an_exit, all_are_placed, place_numbered, exit_numbered, node_at}
 use Rattle.c_graph.proofs.PlacesApart.{has_of_map}
@@ -483,3 +483,8 @@ module _ (p : Program) (w : IsWellFormed p) where
       (λ main. absurd (node_back there.0 (map (λ (z : Lead). z.way) it.1.leads) it.1.node.kind there.2 among (ap (λ (x : Ctx). x.home) one ∙ ap (λ (x : Ctx). x.home) main)))
       (λ called. ap (option_and_then (function_of (graph p (contexts p)))) (ap (option_map (λ (m : Node). m.ctx)) at) ∙ function_there n.ctx c ctx called)
       (is_called p w n.ctx c ctx)
+
+-- so it is, whatever graph of the program is asked
+pub leaves_back : (p : Program) → IsWellFormed p → (g : Graph) (e : Edge) (callee : Option ℕ) → IsGraphOf p g → callee ≡ callee_of_leave g e → LeavesBack p e callee
+leaves_back p w g e callee is found =
+    subst (λ (o : Option ℕ). LeavesBack p e o) (sym (found ∙ ap (λ (h : Graph). callee_of_leave h e) is)) (leaves_callee p w e)

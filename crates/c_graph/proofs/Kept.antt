@@ -28,7 +28,7 @@ has_laws p w = record {
   within = leads_to_nodes p w;
   order = ascends p w;
   leaves = leaves_callee p w;
-  goes = λ input fails v s sites met going. micro_comes p w v s going;
+  goes = micro_comes p w;
   bears = λ e s t sites h. executed_bears e s t sites h;
 }
 

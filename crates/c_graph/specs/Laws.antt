@@ -10,15 +10,14 @@ use Rattle.c_graph.specs.declared.graph.Node.{Node}
 use Rattle.c_graph.specs.declared.graph.Edge.{Edge}
 use Rattle.c_graph.specs.declared.graph.Graph.{Graph}
 use Rattle.c_graph.specs.Executes.{Executes, Faults, Comes, sites_over}
-use Rattle.c_graph.specs.Met.{Met, micro_of, sites_behind}
+use Rattle.c_graph.specs.Met.{micro_of, sites_behind}
 use Rattle.c_graph.specs.Moves.{At, stands}
 use Rattle.c_graph.specs.Nodes.{graph}
 use Rattle.c_graph.specs.Ways.{HasItsWays, LeavesCallee, LeadsToNodes, Ascends}
 
--- whatever a run meets that has not ended: control goes on from there over an edge that does what it says, or stays
+-- one node of a run that has not ended: control goes on from there over an edge that does what it says, or it stays
 abbrev pub GoesByEdges : Program → Type 0
-GoesByEdges p = (input : List ℕ) (fails : List Bool) (v : ℕ) (s : Store) (sites : List ℕ) → Met p input fails (stands v s) sites → is_over s.ending ≡ false →
-    Comes p (graph p (contexts p)) v s (micro_of p (stands v s))
+GoesByEdges p = (v : ℕ) (s : Store) → is_over s.ending ≡ false → Comes p (graph p (contexts p)) v s (micro_of p (stands v s))
 
 -- an object that is born gets the first node of that edge as its site, and nothing else changes sites
 abbrev pub BearsOnMade : Program → Type 0

@@ -18,6 +18,10 @@ use Rattle.c_graph.specs.declared.graph.Graph.{Graph}
 use Rattle.c_graph.specs.Nodes.{says, way_said, graph}
 use Rattle.c_graph.specs.Executes.{callee_of_leave}
 
+-- a graph is that of a program in all its contexts
+abbrev pub IsGraphOf : Program → Graph → Type 0
+IsGraphOf p g = g ≡ graph p (contexts p)
+
 -- the ways on from node v, in the order of its edges
 abbrev pub ways_at : Graph → ℕ → List Way
 ways_at g v = map (λ e. e.way) (filter (λ (e : Edge). e.from == v) g.edges)
@@ -59,10 +63,14 @@ abbrev pub HasItsWays : Program → Type 0
 HasItsWays p = (v : ℕ) (n : Node) → slice_get (graph p (contexts p)).nodes v ≡ Some n →
     (c : Ctx) × (slice_get (contexts p) n.ctx ≡ Some c) × NodeWays p c (ways_at (graph p (contexts p)) v) n.kind
 
--- the callee of an edge back from a function is the function of the context of its first node
+-- where an edge leads back from a function, that is the function of the context of its first node
+abbrev pub LeavesBack : Program → Edge → Option ℕ → Type 0
+LeavesBack p e callee = (target : Option ℕ) (n : Node) (c : Ctx) → Contains (graph p (contexts p)).edges e → e.way ≡ way.Leave target → slice_get (graph p (contexts p)).nodes e.from ≡ Some n →
+    slice_get (contexts p) n.ctx ≡ Some c → callee ≡ Some c.fun
+
+-- the graph says which it is
 abbrev pub LeavesCallee : Program → Type 0
-LeavesCallee p = (e : Edge) (target : Option ℕ) (n : Node) (c : Ctx) → Contains (graph p (contexts p)).edges e → e.way ≡ way.Leave target → slice_get (graph p (contexts p)).nodes e.from ≡ Some n →
-    slice_get (contexts p) n.ctx ≡ Some c → callee_of_leave (graph p (contexts p)) e ≡ Some c.fun
+LeavesCallee p = (e : Edge) → LeavesBack p e (callee_of_leave (graph p (contexts p)) e)
 
 -- edges lead from nodes to nodes
 abbrev pub LeadsToNodes : Graph → Type 0
