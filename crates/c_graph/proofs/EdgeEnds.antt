@@ -37,7 +37,7 @@ use Rattle.c_graph.specs.Actions.{action_of}
 use Rattle.c_graph.specs.Executes.{ctx_at, callee_in, callee_in_kind, callee_at, enters_into, function_of, callee_of_leave}
 use Rattle.c_graph.specs.Moves.{enters}
 use Rattle.c_graph.specs.Nodes.{spot_at, next_at, Symbol, In, Out, Lead, lead, says, says_layer, way_said, on_leads, enter_leads, return_leads, leave_leads, leads_of, Placed, placed_at, exit_of, exit_at, all_placed, number_of, edge_of, edges_from, graph}
-use Rattle.c_graph.specs.Ways.{ways_at, LeavesBy, BraceWays, ActionWays, NodeWays, IsGraphOf, LeavesBack, LeavesCallee, LeadsToNodes, way_rank, StandsBefore, Ascends, brace_leads}
+use Rattle.c_graph.specs.Ways.{ways_at, LeavesBy, BraceWays, ActionWays, NodeWays, IsGraphOf, LeavesBack, LeavesCallee, LeadsToNodes, IsReturn, EndsAtExits, way_rank, StandsBefore, Ascends, brace_leads}
 use Rattle.c_graph.proofs.Invoked.{call_of, spot_calls, invoked}
 use Rattle.c_graph.proofs.Numbers.{IsPlaced, in_context, an_exit, all_are_placed, place_numbered, exit_numbered, node_at}
 use Rattle.c_graph.proofs.PlacesApart.{has_of_map}
@@ -236,6 +236,60 @@ module _ (p : Program) (w : IsWellFormed p) where
           let is_from : e.from ≡ it.0 = ap (λ (d : Edge). d.from) it.5 in
           let is_to : e.to ≡ number_of p (contexts p) it.2.to = ap (λ (d : Edge). d.to) it.5 in
           (omega arith, omega arith)
+
+  -- exits
+
+  -- the node of an exit
+  abbrev ExitAt : ℕ → Type 0
+  ExitAt v = (offset : ℕ) × (slice_get (graph p (contexts p)).nodes v ≡ Some (record { ctx = 0; kind = Exit offset }))
+
+  back_is_not_on : {k : ℕ} {x : Ctx} {ls : List Lead} (l : Lead) → BackFrom p w k x ls → Has l ls → l.way ≡ way.On → ⊥
+  back_is_not_on l (back_from it q arguments target is) h on = let never : way.Leave target ≡ way.On = sym (ap (λ (z : Lead). z.way) (only_one h)) ∙ on in absurd cc
+
+  out_ends : (k : ℕ) (c : Ctx) (path : List ℕ) (a : Instruction) (offset : ℕ) (l : Lead) → slice_get (contexts p) k ≡ Some c → spot_at p c.fun path ≡ AtAction a → Has (exit_of path offset) (exit_at path (AtAction a)) →
+      Has l (leave_leads p (contexts p) path (home_of (contexts p) k)) → l.way ≡ way.On → ExitAt (number_of p (contexts p) l.to)
+  out_ends k c path a offset l e is exits h on =
+      let home : home_of (contexts p) k ≡ c.home = ap (option_and_then (λ (x : Ctx). x.home)) e in
+      ⊎_elim
+      (λ main.
+      let there : spot_at p p.main path ≡ AtAction a = ap (λ (x : Ctx). spot_at p x.fun path) (sym main) ∙ is in
+      let none : home_of (contexts p) k ≡ None = home ∙ ap (λ (x : Ctx). x.home) main in
+      let to : l.to ≡ Out path = to_of way.On (Out path) (subst (λ (o : Option (ℕ × ℕ)). Has l (leave_leads p (contexts p) path o)) none h) in
+      subst (λ (t : Symbol). ExitAt (number_of p (contexts p) t)) (sym to)
+      (offset, node_at p (contexts p) (number_of p (contexts p) (Out path)) (exit_of path offset)
+      (exit_numbered p (contexts p) path (subst (λ (x : Spot). Has (exit_of path offset) (exit_at path x)) (sym there) exits))))
+      (λ it. absurd (back_is_not_on l (leads_back p w k c it) (subst (λ (o : Option (ℕ × ℕ)). Has l (leave_leads p (contexts p) path o)) (home ∙ it.home) h) on))
+      (is_called p w k c e)
+
+  action_ends : (k : ℕ) (c : Ctx) (path : List ℕ) (a : Instruction) (l : Lead) → slice_get (contexts p) k ≡ Some c → spot_at p c.fun path ≡ AtAction a → Has l (leads_of p (contexts p) k c.fun path a) → IsReturn (action_of a) → l.way ≡ way.On →
+      ExitAt (number_of p (contexts p) l.to)
+  action_ends k c path (Return value offset) l e is h return on = out_ends k c path (Return value offset) offset l e is first h on
+  action_ends k c path (Close true offset) l e is h return on = out_ends k c path (Close true offset) offset l e is first h on
+  action_ends k c path (Close false offset) l e is h return on = elim h [ ]
+  action_ends k c path a l e is h return on = absurd return
+
+  same_action : (a : Action) (b : Action) → Act a ≡ Act b → a ≡ b
+  same_action a b e = cc
+
+  spot_ends : (k : ℕ) (c : Ctx) (path : List ℕ) (spot : Spot) (y : Placed) (l : Lead) (b : Action) → slice_get (contexts p) k ≡ Some c → spot_at p c.fun path ≡ spot → Has y (placed_at p (contexts p) k c.fun path spot) → Has l y.leads →
+      y.node.kind ≡ Act b → IsReturn b → l.way ≡ way.On → ExitAt (number_of p (contexts p) l.to)
+  spot_ends k c path (AtGap g) y l b e is h leads kind return on = let never : Gap g.number g.frees ≡ Act b = sym (ap (λ (z : Placed). z.node.kind) (only_one h)) ∙ kind in absurd cc
+  spot_ends k c path (AtAction a) y l b e is h leads kind return on =
+      let same = same_action (action_of a) b (sym (ap (λ (z : Placed). z.node.kind) (only_one h)) ∙ kind) in
+      action_ends k c path a l e is (subst (λ (ls : List Lead). Has l ls) (ap (λ (z : Placed). z.leads) (only_one h)) leads) (subst (λ (x : Action). IsReturn x) (sym same) return) on
+  spot_ends k c path Nowhere y l b e is h leads kind return on = elim h [ ]
+
+  place_ends : (y : Placed) (l : Lead) (b : Action) → IsPlaced p (contexts p) y → Has l y.leads → y.node.kind ≡ Act b → IsReturn b → l.way ≡ way.On → ExitAt (number_of p (contexts p) l.to)
+  place_ends y l b (in_context k c path e h) leads kind return on = spot_ends k c path (spot_at p c.fun path) y l b e refl h leads kind return on
+  place_ends y l b (an_exit path h) leads kind return on = absurd (exit_leads_nowhere path (spot_at p p.main path) y l h leads)
+
+  pub ends_at_exits : EndsAtExits (graph p (contexts p))
+  ends_at_exits e k b h at return on =
+      let it = edge_is_led p (contexts p) (contains_has (graph p (contexts p)).edges e h) in
+      let node : Some it.1.node ≡ Some (record { ctx = k; kind = Act b }) = sym (node_at p (contexts p) it.0 it.1 it.3) ∙ ap (λ (d : Edge). slice_get (graph p (contexts p)).nodes d.from) (sym it.5) ∙ at in
+      let same : it.1.node ≡ record { ctx = k; kind = Act b } = cc in
+      subst (λ (v : ℕ). ExitAt v) (sym (ap (λ (d : Edge). d.to) it.5))
+      (place_ends it.1 it.2 b (all_are_placed p (contexts p) (has_get (all_placed p (contexts p)) it.0 it.3)) it.4 (ap (λ (n : Node). n.kind) same) return (sym (ap (λ (d : Edge). d.way) it.5) ∙ on))
 
   -- order
 

@@ -16,7 +16,7 @@ use Rattle.c_graph.specs.Met.{Met, micro_of, node_run, sites_behind}
 use Rattle.c_graph.specs.Moves.{At, stands, at_node}
 use Rattle.c_graph.specs.Nodes.{graph}
 use Rattle.c_graph.proofs.Births.{kept_sites, executed_bears, faults_many}
-use Rattle.c_graph.proofs.EdgeEnds.{leads_to_nodes, ascends, leaves_callee}
+use Rattle.c_graph.proofs.EdgeEnds.{leads_to_nodes, ends_at_exits, ascends, leaves_callee}
 use Rattle.c_graph.proofs.EdgeWays.{has_its_ways}
 use Rattle.c_graph.proofs.MetRuns.{met_keeps, run_met}
 use Rattle.c_graph.proofs.Outcomes.{micro_comes}
@@ -26,6 +26,7 @@ pub has_laws : (p : Program) → IsWellFormed p → HasLaws p
 has_laws p w = record {
   ways = has_its_ways p w;
   within = leads_to_nodes p w;
+  exits = ends_at_exits p w;
   order = ascends p w;
   leaves = leaves_callee p w;
   goes = micro_comes p w;

@@ -13,7 +13,7 @@ use Rattle.c_graph.specs.Executes.{Executes, Faults, Comes, sites_over}
 use Rattle.c_graph.specs.Met.{micro_of, sites_behind}
 use Rattle.c_graph.specs.Moves.{At, stands}
 use Rattle.c_graph.specs.Nodes.{graph}
-use Rattle.c_graph.specs.Ways.{HasItsWays, LeavesCallee, LeadsToNodes, Ascends}
+use Rattle.c_graph.specs.Ways.{HasItsWays, LeavesCallee, LeadsToNodes, EndsAtExits, Ascends}
 
 -- one node of a run that has not ended: control goes on from there over an edge that does what it says, or it stays
 abbrev pub GoesByEdges : Program → Type 0
@@ -27,6 +27,7 @@ BearsOnMade p = (e : Edge) (s t : Store) (sites : List ℕ) → Executes p (grap
 pub record HasLaws (p : Program) : Type 0 where
   pub ways : HasItsWays p
   pub within : LeadsToNodes (graph p (contexts p))
+  pub exits : EndsAtExits (graph p (contexts p))
   pub order : Ascends (graph p (contexts p))
   pub leaves : LeavesCallee p
   pub goes : GoesByEdges p

@@ -63,6 +63,17 @@ abbrev pub HasItsWays : Program → Type 0
 HasItsWays p = (v : ℕ) (n : Node) → slice_get (graph p (contexts p)).nodes v ≡ Some n →
     (c : Ctx) × (slice_get (contexts p) n.ctx ≡ Some c) × NodeWays p c (ways_at (graph p (contexts p)) v) n.kind
 
+-- a return or a closing brace
+abbrev pub IsReturn : Action → Type 0
+IsReturn (action.Return value) = Unit {0}
+IsReturn action.Close = Unit {0}
+IsReturn a = ⊥
+
+-- out of `main`, edges lead to exits
+abbrev pub EndsAtExits : Graph → Type 0
+EndsAtExits g = (e : Edge) (k : ℕ) (a : Action) → Contains g.edges e → slice_get g.nodes e.from ≡ Some (record { ctx = k; kind = Act a }) → IsReturn a → e.way ≡ way.On →
+    (offset : ℕ) × (slice_get g.nodes e.to ≡ Some (record { ctx = 0; kind = Exit offset }))
+
 -- where an edge leads back from a function, that is the function of the context of its first node
 abbrev pub LeavesBack : Program → Edge → Option ℕ → Type 0
 LeavesBack p e callee = (target : Option ℕ) (n : Node) (c : Ctx) → Contains (graph p (contexts p)).edges e → e.way ≡ way.Leave target → slice_get (graph p (contexts p)).nodes e.from ≡ Some n →
