@@ -1,6 +1,6 @@
 -- Objects are born over Made edges alone, so the sites of objects are the first nodes of those edges.
-use Rattle.std.proofs.Common.{◌≡◌, ℕ, zero, suc, ◌+◌, ◌<◌, Bool, true, false, List, [], ◌∷◌, ◌++◌, length, Option, Some, None, Result, Ok, Err, refl, ap, sym, subst, ◌∙◌, arith}
-use Rattle.std.specs.Prelude.{if◌then◌else◌, nat_lt, pos, drop}
+use Rattle.std.proofs.Common.{◌≡◌, ℕ, zero, suc, ◌+◌, ◌<◌, Bool, true, false, List, [], ◌∷◌, ◌++◌, length, Option, Some, None, Result, Ok, Err, refl, ap, ◌∙◌, arith}
+use Rattle.std.specs.Prelude.{if◌then◌else◌, nat_lt, drop}
 use Rattle.std.proofs.lemmas.Bool.{ltb-true, lt-ltb}
 use Rattle.std.proofs.lemmas.List.{length-append}
 use Rattle.c_tree.specs.declared.expr.Expr.{out-Expr}
@@ -10,12 +10,11 @@ use Rattle.c_meaning.specs.declared.value.Value.{Value}
 use Rattle.c_meaning.specs.declared.value.Value.TheVariants as value
 use Rattle.c_meaning.specs.declared.machine.Location.{Location}
 use Rattle.c_meaning.specs.declared.machine.Location.TheVariants.{Slot, Cell}
-use Rattle.c_meaning.specs.declared.machine.Object.{Object}
 use Rattle.c_meaning.specs.declared.machine.Stop.{Stop}
 use Rattle.c_meaning.specs.declared.machine.Stop.TheVariants.{Faulted, Excluded}
 use Rattle.c_meaning.specs.Eval.{is_freed, offset_of}
-use Rattle.c_meaning.specs.Machine.{Store, altered, with_cell, marked_freed, stored, deallocated}
-use Rattle.c_meaning.specs.Effects.{is_over, freed_layer, freed_once, freed_value, freed_result, freed, all_freed, answered, born, next_byte, fetched, low_byte, written, bound, parameters_of, received, back, ended}
+use Rattle.c_meaning.specs.Machine.{Store, altered, with_cell, marked_freed, stored}
+use Rattle.c_meaning.specs.Effects.{is_over, freed_layer, freed_once, freed_value, freed_result, freed, all_freed, answered, born, next_byte, fetched, low_byte, written, bound, parameters_of, back, ended}
 use Rattle.c_graph.specs.declared.graph.Edge.{Edge}
 use Rattle.c_graph.specs.declared.graph.Graph.{Graph}
 use Rattle.c_graph.specs.declared.graph.NodeKind.{NodeKind}

@@ -1,5 +1,5 @@
 -- A closing brace stands behind the last gap of a function alone.
-use Rattle.std.proofs.Common.{◌≡◌, ℕ, zero, suc, ◌==◌, Bool, true, false, List, [], ◌∷◌, length, slice_get, Option, Some, None, option_map, option_and_then, refl, ap, sym, subst, ◌∙◌}
+use Rattle.std.proofs.Common.{◌≡◌, ℕ, zero, suc, ◌==◌, Bool, true, false, List, [], ◌∷◌, length, slice_get, Option, Some, None, option_and_then, refl, subst}
 use Rattle.std.specs.Prelude.{if◌then◌else◌}
 use Rattle.c_tree.specs.Typing.{has, Declarations, declarations, item_fits, block_fits}
 use Rattle.c_tree.specs.WellFormed.{IsWellFormed}
@@ -15,7 +15,7 @@ use Rattle.c_meaning.specs.Parts.{Instruction, Close, Part, One, Row, Condition,
 use Rattle.c_meaning.specs.Place.{Spot, AtGap, AtAction, Nowhere, goes_back, test_at, item_at, part_of, gap_at, instruction_spot, row_spot, test_spot, spot_in, spot_of, result_slot, brace_of, closing, spot_or_brace, spot_in_fun}
 use Rattle.c_graph.specs.Nodes.{spot_at}
 use Rattle.c_graph.specs.Ways.{brace_leads}
-use Rattle.c_graph.proofs.WholeParts.{Is, AllAre, none_are, more_are, right_layer, Whole, one, row, condition, within, part_whole, item_is_right}
+use Rattle.c_graph.proofs.WholeParts.{Is, AllAre, more_are, right_layer, Whole, one, row, within, part_whole, item_is_right}
 use Rattle.c_graph.proofs.Lands.{types_right}
 
 -- no closing brace stands there

@@ -1,37 +1,34 @@
 -- In a block of right types each call of a user's function stands at a place.
-use Rattle.std.proofs.Common.{◌≡◌, ℕ, zero, suc, ◌&&◌, ⊎_elim, Bool, true, List, [], ◌∷◌, ◌++◌, map, flat_map, slice_get, unwrap_or, Option, Some, None, option_map, option_and_then, refl, ap, sym, subst, ◌∙◌}
+use Rattle.std.proofs.Common.{◌≡◌, ℕ, suc, ⊎_elim, Bool, true, List, [], ◌∷◌, ◌++◌, map, flat_map, slice_get, Option, Some, None, option_map, option_and_then, ap, sym, subst, ◌∙◌}
 use Rattle.std.specs.List.{list_all}
 use Rattle.std.proofs.lemmas.Bool.{and_parts}
-use Rattle.c_tree.specs.Typing.{Declarations, declarations, head_fits, item_fits, arm_fits, all_items, its_item, block_fits, is_condition}
+use Rattle.c_tree.specs.Typing.{Declarations, head_fits, item_fits, arm_fits, all_items, its_item, block_fits, is_condition}
 use Rattle.c_tree.specs.UserCalls.{Here, from_option, call_calls, right_calls, declr_calls, simple_calls, start_calls, head_calls, item_calls, arm_calls, block_calls, piece_calls, calls_in, item_calls_in, arm_calls_in, piece_calls_in}
 use Rattle.c_tree.specs.declared.control.UserCall.{UserCall}
 use Rattle.c_tree.specs.declared.expr.Expr.{Expr}
 use Rattle.c_tree.specs.declared.expr.Expr.TheVariants as expr
 use Rattle.c_tree.specs.declared.expr.Op.{Op}
 use Rattle.c_tree.specs.declared.expr.Op.TheVariants as op
-use Rattle.c_tree.specs.declared.program.Arm.{Arm, Arm-F, roll-Arm, out-Arm, out-roll-Arm, fold-roll-Arm, map-Arm}
+use Rattle.c_tree.specs.declared.program.Arm.{Arm, Arm-F, roll-Arm, out-roll-Arm, fold-roll-Arm, map-Arm}
 use Rattle.c_tree.specs.declared.program.Block.{Block, Block-F, out-Block, roll-Block, out-roll-Block, fold-roll-Block, map-Block, ind-Block}
 use Rattle.c_tree.specs.declared.program.Call.{Call}
 use Rattle.c_tree.specs.declared.program.Call.TheVariants as call
 use Rattle.c_tree.specs.declared.program.Declr.{Declr}
 use Rattle.c_tree.specs.declared.program.ForHead.{ForHead}
-use Rattle.c_tree.specs.declared.program.FunDef.{FunDef}
 use Rattle.c_tree.specs.declared.program.Item.{Item, Item-F, out-Item, roll-Item, out-roll-Item, fold-roll-Item, map-Item}
 use Rattle.c_tree.specs.declared.program.Item.TheOpen.{Declare, Assign, Do, Nest, If, While, For, Break, Continue, Return}
 use Rattle.c_tree.specs.declared.program.Piece.{Piece, Piece-F, out-Piece, roll-Piece, out-roll-Piece, fold-roll-Piece, map-Piece}
-use Rattle.c_tree.specs.declared.program.Program.{Program}
 use Rattle.c_tree.specs.declared.program.Right.{Right}
 use Rattle.c_tree.specs.declared.program.Right.TheVariants as right
 use Rattle.c_tree.specs.declared.program.Simple.{Simple}
 use Rattle.c_tree.specs.declared.program.Start.{Start}
 use Rattle.c_tree.specs.declared.program.Start.TheVariants as start
 use Rattle.c_tree.specs.declared.program.Ty.{Ty}
-use Rattle.c_tree.specs.WellFormed.{IsWellFormed, each_from}
 use Rattle.c_meaning.specs.Parts.{Instruction, Invoke, Part, One, Row, Condition, Within, target_of, called, put_call, assigned, declared, started, returned, condition_of, last_row, arm_parts, parts}
-use Rattle.c_meaning.specs.Place.{Spot, AtAction, arm_test, arm_body, part_of, instruction_spot, row_spot, spot_in, spot_of, result_slot, brace_of, closing, spot_or_brace, spot_in_fun}
+use Rattle.c_meaning.specs.Place.{Spot, AtAction, arm_test, arm_body, part_of, instruction_spot, row_spot, spot_in, spot_of}
 use Rattle.c_meaning.proofs.GapBound.{spot_within}
 use Rattle.call_contexts.proofs.Has.{Has, has_left, has_right, has_split, only_one}
-use Rattle.c_graph.proofs.WholeParts.{Is, AllAre, none_are, more_are, item_right, arm_right, piece_right, right_layer, Whole, one, row, condition, within, AllWhole, none_whole, more_whole, parts_whole}
+use Rattle.c_graph.proofs.WholeParts.{Is, AllAre, none_are, more_are, item_right, arm_right, piece_right, right_layer, one, row, condition, AllWhole, none_whole, more_whole, parts_whole}
 
 -- a call stands there, by its number and its callee
 pub data IsCall (c : UserCall) : Spot → Type 0 where

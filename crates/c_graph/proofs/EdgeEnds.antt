@@ -1,10 +1,10 @@
 -- Edges lead from nodes to nodes, they ascend, and the graph says which function an edge leads back from.
-use Rattle.std.proofs.Common.{◌≡◌, ◌≢◌, ℕ, zero, suc, ◌+◌, ◌<◌, ◌≤◌, ◌==◌, ◌&&◌, ◌⊎◌, inl, inr, ⊎_elim, Bool, true, false, not, cond, List, [], ◌∷◌, ◌++◌, map, length, slice_get, unwrap_or, Option, Some, None, option_map, option_and_then, refl, ap, sym, subst, ◌∙◌, arith}
+use Rattle.std.proofs.Common.{◌≡◌, ◌≢◌, ℕ, zero, suc, ◌+◌, ◌<◌, ◌==◌, ◌&&◌, inl, inr, ⊎_elim, Bool, true, false, cond, List, [], ◌∷◌, ◌++◌, map, length, slice_get, unwrap_or, Option, Some, None, option_map, option_and_then, refl, ap, sym, subst, ◌∙◌, arith}
 use Rattle.std.specs.List.{All, AllPairs, Contains, find}
 use Rattle.std.specs.Option.{is_some}
 use Rattle.std.proofs.lemmas.Bool.{and_parts, eqb-true, eq-eqb}
 use Rattle.std.proofs.lemmas.List.{length-map}
-use Rattle.std.proofs.lemmas.List.Elements.{All-append, All-cons, All-weaker, All-contains_itself}
+use Rattle.std.proofs.lemmas.List.Elements.{All-cons, All-weaker, All-contains_itself}
 use Rattle.std.proofs.lemmas.List.Kept.{AllPairs-cons}
 use Rattle.std.proofs.lemmas.Option.{slice_get-map, slice_get_within}
 use Rattle.c_tree.specs.Typing.{has, declarations, prototype}
@@ -20,7 +20,6 @@ use Rattle.c_tree.specs.declared.program.Program.{Program}
 use Rattle.c_meaning.specs.Parts.{Instruction, Unset, Assign, Malloc, Getchar, Putchar, Printf, Test, Invoke, Return, Close}
 use Rattle.c_meaning.specs.Place.{Spot, AtGap, AtAction, Nowhere}
 use Rattle.call_contexts.specs.declared.context.Ctx.{Ctx}
-use Rattle.call_contexts.specs.Calls.{calls_by_function, calls_of}
 use Rattle.call_contexts.specs.Contexts.{context, contexts, callee_of, home_of}
 use Rattle.call_contexts.proofs.CallLaws.{row_of}
 use Rattle.call_contexts.proofs.Has.{Has, first, later, has_left, has_right, has_map, has_split, has_get, only_one, contains_has, has_contains}
@@ -36,8 +35,8 @@ use Rattle.c_graph.specs.declared.graph.Graph.{Graph}
 use Rattle.c_graph.specs.Actions.{action_of}
 use Rattle.c_graph.specs.Executes.{ctx_at, callee_in, callee_in_kind, callee_at, enters_into, function_of, callee_of_leave}
 use Rattle.c_graph.specs.Moves.{enters}
-use Rattle.c_graph.specs.Nodes.{spot_at, next_at, Symbol, In, Out, Lead, lead, says, says_layer, way_said, on_leads, enter_leads, return_leads, leave_leads, leads_of, Placed, placed_at, exit_of, exit_at, all_placed, number_of, edge_of, edges_from, graph}
-use Rattle.c_graph.specs.Ways.{ways_at, LeavesBy, BraceWays, ActionWays, NodeWays, IsGraphOf, LeavesBack, LeavesCallee, LeadsToNodes, IsReturn, EndsAtExits, way_rank, StandsBefore, Ascends, brace_leads}
+use Rattle.c_graph.specs.Nodes.{spot_at, next_at, Symbol, In, Out, Lead, lead, says, says_layer, way_said, on_leads, enter_leads, leave_leads, leads_of, Placed, placed_at, exit_of, exit_at, all_placed, number_of, edge_of, edges_from, graph}
+use Rattle.c_graph.specs.Ways.{LeavesBy, BraceWays, ActionWays, NodeWays, IsGraphOf, LeavesBack, LeavesCallee, LeadsToNodes, IsReturn, EndsAtExits, way_rank, StandsBefore, Ascends, brace_leads}
 use Rattle.c_graph.proofs.Invoked.{call_of, spot_calls, invoked}
 use Rattle.c_graph.proofs.Numbers.{IsPlaced, in_context, an_exit, all_are_placed, place_numbered, exit_numbered, node_at}
 use Rattle.c_graph.proofs.PlacesApart.{has_of_map}
@@ -255,9 +254,11 @@ module _ (p : Program) (w : IsWellFormed p) where
       let there : spot_at p p.main path ≡ AtAction a = ap (λ (x : Ctx). spot_at p x.fun path) (sym main) ∙ is in
       let none : home_of (contexts p) k ≡ None = home ∙ ap (λ (x : Ctx). x.home) main in
       let to : l.to ≡ Out path = to_of way.On (Out path) (subst (λ (o : Option (ℕ × ℕ)). Has l (leave_leads p (contexts p) path o)) none h) in
-      subst (λ (t : Symbol). ExitAt (number_of p (contexts p) t)) (sym to)
-      (offset, node_at p (contexts p) (number_of p (contexts p) (Out path)) (exit_of path offset)
-      (exit_numbered p (contexts p) path (subst (λ (x : Spot). Has (exit_of path offset) (exit_at path x)) (sym there) exits))))
+      subst (λ (t : Symbol). ExitAt (number_of p (contexts p) t)) (sym to) (
+        offset,
+        node_at p (contexts p) (number_of p (contexts p) (Out path)) (exit_of path offset)
+            (exit_numbered p (contexts p) path (subst (λ (x : Spot). Has (exit_of path offset) (exit_at path x)) (sym there) exits)),
+      ))
       (λ it. absurd (back_is_not_on l (leads_back p w k c it) (subst (λ (o : Option (ℕ × ℕ)). Has l (leave_leads p (contexts p) path o)) (home ∙ it.home) h) on))
       (is_called p w k c e)
 

@@ -1,10 +1,10 @@
 -- Edges leave each node in all the ways of what stands there, and in no other.
-use Rattle.std.proofs.Common.{◌≡◌, ◌≢◌, ℕ, zero, suc, ◌+◌, ◌<◌, ◌==◌, ◌⊎◌, inl, inr, ⊎_elim, Bool, true, false, List, [], ◌∷◌, ◌++◌, map, length, slice_get, unwrap_or, Option, Some, None, option_map, option_and_then, refl, ap, sym, subst, ◌∙◌, arith, flat_map, append-nil}
+use Rattle.std.proofs.Common.{◌≡◌, ◌≢◌, ℕ, zero, suc, ◌+◌, ◌<◌, ◌==◌, ⊎_elim, Bool, true, false, List, [], ◌∷◌, ◌++◌, map, length, slice_get, unwrap_or, Option, Some, None, option_map, option_and_then, refl, ap, sym, subst, ◌∙◌, arith, flat_map, append-nil}
 use Rattle.std.specs.Prelude.{if◌then◌else◌}
 use Rattle.std.specs.List.{filter}
 use Rattle.std.proofs.lemmas.Bool.{eqb-true, eq-eqb}
 use Rattle.std.proofs.lemmas.Option.{slice_get-map}
-use Rattle.c_tree.specs.Typing.{has, declarations}
+use Rattle.c_tree.specs.Typing.{declarations}
 use Rattle.c_tree.specs.UserCalls.{calls_in}
 use Rattle.c_tree.specs.WellFormed.{IsWellFormed}
 use Rattle.c_tree.specs.declared.control.UserCall.{UserCall}
@@ -14,7 +14,7 @@ use Rattle.c_tree.specs.declared.program.FunDef.{FunDef}
 use Rattle.c_tree.specs.declared.program.Piece.{Piece}
 use Rattle.c_tree.specs.declared.program.Program.{Program}
 use Rattle.c_meaning.specs.Parts.{Instruction, Unset, Assign, Malloc, Getchar, Putchar, Printf, Test, Invoke, Return, Close}
-use Rattle.c_meaning.specs.Place.{Spot, AtGap, AtAction, Nowhere, goes_back, gap_at, spot_of, result_slot, brace_of, closing, spot_or_brace, spot_in_fun}
+use Rattle.c_meaning.specs.Place.{Spot, AtGap, AtAction, Nowhere, gap_at, spot_of, result_slot, spot_or_brace, spot_in_fun}
 use Rattle.call_contexts.specs.declared.context.Ctx.{Ctx}
 use Rattle.call_contexts.specs.Calls.{calls_by_function, calls_of}
 use Rattle.call_contexts.specs.Contexts.{context, contexts, callee_of, home_of}
@@ -24,13 +24,10 @@ use Rattle.call_contexts.proofs.Has.{Has, first, later, only_one, has_get}
 use Rattle.c_graph.specs.declared.graph.Way.{Way}
 use Rattle.c_graph.specs.declared.graph.Way.TheVariants as way
 use Rattle.c_graph.specs.declared.graph.Node.{Node}
-use Rattle.c_graph.specs.declared.graph.NodeKind.{NodeKind}
-use Rattle.c_graph.specs.declared.graph.NodeKind.TheVariants.{Gap, Act, Exit}
 use Rattle.c_graph.specs.declared.graph.Edge.{Edge}
-use Rattle.c_graph.specs.declared.graph.Graph.{Graph}
 use Rattle.c_graph.specs.Actions.{action_of}
-use Rattle.c_graph.specs.Nodes.{spot_at, next_at, places, Symbol, In, Out, Lead, lead, says, way_said, on_leads, enter_leads, back_leads, return_leads, leave_leads, leads_of, Placed, placed_at, exit_of, exit_at, all_placed, number_of, edge_of, edges_from, graph}
-use Rattle.c_graph.specs.Ways.{ways_at, LeavesBy, brace_leads, BraceWays, ActionWays, NodeWays, HasItsWays}
+use Rattle.c_graph.specs.Nodes.{spot_at, next_at, places, In, Lead, lead, says, way_said, enter_leads, back_leads, return_leads, leave_leads, leads_of, Placed, placed_at, exit_at, all_placed, edge_of, edges_from, graph}
+use Rattle.c_graph.specs.Ways.{ways_at, LeavesBy, BraceWays, ActionWays, NodeWays, HasItsWays}
 use Rattle.c_graph.proofs.Follows.{HasCallsInOrder, calls_in_order}
 use Rattle.c_graph.proofs.Listed.{stands_listed}
 use Rattle.c_graph.proofs.Invoked.{call_of, spot_calls, invoked}

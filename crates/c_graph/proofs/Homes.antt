@@ -2,8 +2,7 @@
 use Rattle.std.proofs.Common.{◌≡◌, ℕ, zero, suc, ◌+◌, ◌<◌, ◌≤◌, ◌⊎◌, inl, inr, ⊎_elim, List, [], ◌∷◌, ◌++◌, map, length, slice_get, unwrap_or, Option, Some, None, option_map, refl, ap, sym, subst, ◌∙◌, arith}
 use Rattle.std.specs.List.{range_with_len}
 use Rattle.std.proofs.lemmas.List.{map-append, length-append}
-use Rattle.std.proofs.lemmas.Option.{slice_get_within}
-use Rattle.c_tree.specs.UserCalls.{calls_in, calls_from, user_calls}
+use Rattle.c_tree.specs.UserCalls.{calls_in, calls_from}
 use Rattle.c_tree.specs.WellFormed.{IsWellFormed}
 use Rattle.c_tree.specs.declared.control.UserCall.{UserCall}
 use Rattle.c_tree.specs.declared.program.FunDef.{FunDef}
@@ -13,7 +12,7 @@ use Rattle.call_contexts.specs.Calls.{calls_by_function, calls_of}
 use Rattle.call_contexts.specs.Contexts.{context, visit_calls, visit, contexts, callee_of}
 use Rattle.call_contexts.proofs.CallLaws.{row_of}
 use Rattle.call_contexts.proofs.ContextLaws.{ComesFrom, context_comes, callee_stands}
-use Rattle.call_contexts.proofs.Has.{Has, first, later, has_left, has_right, has_map, get_split, only_one}
+use Rattle.call_contexts.proofs.Has.{Has, first, later, has_left, get_split, only_one}
 use Rattle.call_contexts.proofs.WellFormedCalls.{are_calls}
 use Rattle.c_graph.proofs.PlacesApart.{Apart, no_more, one_more}
 

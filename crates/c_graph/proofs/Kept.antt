@@ -1,7 +1,5 @@
 -- What is kept over each edge and by each fault holds of all that a run meets.
-use Rattle.std.proofs.Common.{◌≡◌, ℕ, ◌<◌, ◌⊎◌, inl, inr, Bool, false, List, [], length, slice_get, Option, Some, None, refl, ap, sym, subst, ◌∙◌, arith}
-use Rattle.std.specs.List.{Contains}
-use Rattle.std.proofs.lemmas.List.Elements.{All-contains}
+use Rattle.std.proofs.Common.{◌≡◌, ℕ, inl, inr, Bool, false, List, length, refl, ap, sym, subst, ◌∙◌, arith}
 use Rattle.std.proofs.lemmas.Option.{slice_get_past}
 use Rattle.c_tree.specs.WellFormed.{IsWellFormed}
 use Rattle.c_tree.specs.declared.program.Program.{Program}
@@ -9,8 +7,7 @@ use Rattle.c_meaning.specs.Machine.{Store}
 use Rattle.c_meaning.specs.Effects.{is_over}
 use Rattle.c_meaning.specs.Step.{acts, counted}
 use Rattle.call_contexts.specs.Contexts.{contexts}
-use Rattle.c_graph.specs.declared.graph.Node.{Node}
-use Rattle.c_graph.specs.Executes.{Comes, goes, faults, rests, past, is_lost, sites_over}
+use Rattle.c_graph.specs.Executes.{Comes, goes, faults, rests, past, is_lost}
 use Rattle.c_graph.specs.Laws.{HasLaws, IsKept, HoldsOrLost}
 use Rattle.c_graph.specs.Met.{Met, micro_of, node_run, sites_behind}
 use Rattle.c_graph.specs.Moves.{At, stands, at_node}

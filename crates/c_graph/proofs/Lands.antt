@@ -1,9 +1,9 @@
 -- In a well-formed program control goes on from each place to a place where something stands.
-use Rattle.std.proofs.Common.{◌≡◌, ◌≢◌, ℕ, zero, suc, ◌+◌, ◌<◌, ◌==◌, ◌&&◌, Bool, true, false, not, List, [], ◌∷◌, ◌++◌, map, length, slice_get, Option, Some, None, option_map, option_and_then, refl, ap, sym, subst, ◌∙◌, arith}
+use Rattle.std.proofs.Common.{◌≡◌, ◌≢◌, ℕ, zero, suc, ◌+◌, ◌<◌, ◌==◌, Bool, true, false, not, List, [], ◌∷◌, ◌++◌, map, length, slice_get, Option, Some, None, option_map, option_and_then, refl, ap, sym, subst, ◌∙◌, arith}
 use Rattle.std.specs.Prelude.{if◌then◌else◌, nat_lt, ◌||◌}
 use Rattle.std.specs.List.{list_any}
-use Rattle.std.proofs.lemmas.Bool.{eqb-true, eqb-false, eq-eqb, ltb-true}
-use Rattle.std.proofs.lemmas.Option.{slice_get_past, slice_get_within}
+use Rattle.std.proofs.lemmas.Bool.{eqb-true, eq-eqb, ltb-true}
+use Rattle.std.proofs.lemmas.Option.{slice_get_past}
 use Rattle.c_tree.specs.Flow.{item_jumps, arm_jumps, block_jumps, piece_jumps, jumps_out}
 use Rattle.c_tree.specs.Typing.{Declarations, declarations, item_fits, block_fits}
 use Rattle.c_tree.specs.WellFormed.{IsWellFormed, each_from, jumps_in_loops}
@@ -22,12 +22,12 @@ use Rattle.c_tree.specs.declared.program.Program.{Program}
 use Rattle.c_tree.specs.declared.program.Simple.{Simple}
 use Rattle.c_tree.specs.declared.program.Start.{Start}
 use Rattle.c_tree.specs.declared.program.Ty.{Ty}
-use Rattle.c_meaning.specs.Parts.{Instruction, Test, Part, One, Row, Condition, Within, called, assigned, declared, started, returned, condition_of, last_row, arm_parts, parts, Departure, Through, Found, Broken, Continued, Lost, Goal, Into, Out, first_part, step_part, behind_for, entry, goal}
-use Rattle.c_meaning.specs.Place.{Spot, AtGap, AtAction, Nowhere, Onward, To, By, operand, atomic, test_at, first_layer, first_test, decided, behind_operand, within_operand, behind_test, arm_test, arm_body, item_at, part_of, part_at, gap_at, instruction_spot, row_spot, test_spot, spot_in, spot_of, first_place, entered, departed, reached, behind_gap, behind_part, behind_item, behind_in_row, behind_atom, next_in, next, result_slot, brace_of, closing, spot_or_brace, spot_in_fun, onward_path, next_in_fun}
+use Rattle.c_meaning.specs.Parts.{Instruction, Test, Part, One, Row, Condition, Within, called, assigned, declared, started, returned, condition_of, last_row, arm_parts, Departure, Through, Found, Broken, Continued, Lost, Goal, Into, Out, first_part, step_part, entry, goal}
+use Rattle.c_meaning.specs.Place.{Spot, AtGap, AtAction, Nowhere, Onward, To, By, operand, atomic, test_at, first_layer, first_test, decided, behind_operand, within_operand, behind_test, arm_test, arm_body, item_at, part_of, part_at, gap_at, row_spot, test_spot, spot_in, spot_of, first_place, entered, reached, behind_gap, behind_part, behind_item, behind_atom, next_in, next, result_slot, brace_of, closing, spot_or_brace, spot_in_fun, onward_path, next_in_fun}
 use Rattle.c_meaning.proofs.GapBound.{spot_within}
 use Rattle.call_contexts.proofs.ContextLaws.{both_true}
 use Rattle.c_graph.specs.Nodes.{spot_at, next_at}
-use Rattle.c_graph.proofs.WholeParts.{Is, AllAre, none_are, more_are, right_layer, Whole, one, row, condition, within, part_whole, item_is_right}
+use Rattle.c_graph.proofs.WholeParts.{AllAre, none_are, more_are, right_layer, Whole, one, row, condition, within, part_whole, item_is_right}
 
 -- something stands there
 abbrev pub Stands : Spot → Type 0

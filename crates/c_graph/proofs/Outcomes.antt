@@ -1,10 +1,9 @@
 -- What comes of a node: control goes over an edge that does what it says, or it stays.
-use Rattle.std.proofs.Common.{◌≡◌, ◌≢◌, ℕ, zero, suc, ◌+◌, ◌<◌, ◌==◌, ◌&&◌, ◌⊎◌, inl, inr, ⊎_elim, Bool, true, false, not, ℤ, pos, negsuc, List, [], ◌∷◌, ◌++◌, map, length, slice_get, Option, Some, None, Result, Ok, Err, option_map, option_and_then, refl, ap, sym, subst, ◌∙◌, arith}
+use Rattle.std.proofs.Common.{◌≡◌, ℕ, ⊎_elim, Bool, true, false, not, ℤ, pos, negsuc, List, [], ◌∷◌, map, length, slice_get, Option, Some, None, Result, Ok, Err, option_map, option_and_then, refl, ap, sym, subst, ◌∙◌}
 use Rattle.std.specs.Prelude.{if◌then◌else◌}
 use Rattle.std.specs.List.{Contains}
-use Rattle.std.proofs.lemmas.Bool.{and_parts, eqb-true}
 use Rattle.c_tree.specs.WellFormed.{IsWellFormed}
-use Rattle.c_tree.specs.declared.expr.Expr.{Expr, Expr-F, out-Expr, fold_out-Expr}
+use Rattle.c_tree.specs.declared.expr.Expr.{Expr, out-Expr, fold_out-Expr}
 use Rattle.c_tree.specs.declared.expr.Op.{Op}
 use Rattle.c_tree.specs.declared.program.Free.{Free}
 use Rattle.c_tree.specs.declared.program.Program.{Program}
@@ -14,8 +13,7 @@ use Rattle.c_meaning.specs.declared.value.Value.{Value}
 use Rattle.c_meaning.specs.declared.value.Value.TheVariants as value
 use Rattle.c_meaning.specs.declared.machine.Kind.{Kind}
 use Rattle.c_meaning.specs.declared.machine.Kind.TheVariants.{Uninit, DoubleFree}
-use Rattle.c_meaning.specs.declared.machine.Ending.{Ending}
-use Rattle.c_meaning.specs.declared.machine.Ending.TheVariants.{Running, Returned, Fault}
+use Rattle.c_meaning.specs.declared.machine.Ending.TheVariants.{Fault}
 use Rattle.c_meaning.specs.declared.machine.Location.{Location}
 use Rattle.c_meaning.specs.declared.machine.Location.TheVariants.{Slot}
 use Rattle.c_meaning.specs.declared.machine.Stop.{Stop}
@@ -24,10 +22,10 @@ use Rattle.c_meaning.specs.Eval.{◌>>=◌, truth, int_of, is_freed, eval, eval_
 use Rattle.c_meaning.specs.Machine.{Store, stored, stopped}
 use Rattle.c_meaning.specs.Parts.{Instruction, Unset, Assign, Malloc, Getchar, Putchar, Printf, Test, Invoke, Return, Close}
 use Rattle.c_meaning.specs.Place.{Spot, AtGap, AtAction, Nowhere}
-use Rattle.c_meaning.specs.Effects.{Effect, Passes, Calls, Returns, Stays, is_over, freed_layer, freed_once, freed_value, freed_result, freed, all_freed, target_location, answered, new_value, count_of, fails_next, born, granted, requested, fetched, low_byte, written, ints_of, printed, bound, parameters_of, value_of, unless_stopped, passing, attempt, effect, back, ended}
+use Rattle.c_meaning.specs.Effects.{Effect, Passes, Calls, Returns, is_over, freed_layer, freed_once, freed_value, freed_result, freed, all_freed, target_location, answered, new_value, count_of, fails_next, born, granted, requested, fetched, low_byte, written, ints_of, printed, bound, parameters_of, value_of, unless_stopped, passing, attempt, back, ended}
 use Rattle.c_meaning.specs.Step.{acts}
 use Rattle.call_contexts.specs.declared.context.Ctx.{Ctx}
-use Rattle.call_contexts.specs.Contexts.{context, contexts, callee_of, home_of}
+use Rattle.call_contexts.specs.Contexts.{contexts, home_of}
 use Rattle.call_contexts.proofs.Has.{Has, first, later, has_map, has_get, only_one, contains_has, has_contains}
 use Rattle.c_graph.specs.declared.graph.Action.{Action}
 use Rattle.c_graph.specs.declared.graph.Action.TheVariants as action
@@ -37,17 +35,16 @@ use Rattle.c_graph.specs.declared.graph.Node.{Node}
 use Rattle.c_graph.specs.declared.graph.NodeKind.{NodeKind}
 use Rattle.c_graph.specs.declared.graph.NodeKind.TheVariants.{Gap, Act, Exit}
 use Rattle.c_graph.specs.declared.graph.Edge.{Edge}
-use Rattle.c_graph.specs.declared.graph.Graph.{Graph}
 use Rattle.c_graph.specs.Actions.{action_of, instruction_of}
-use Rattle.c_graph.specs.Executes.{function_of, callee_of_leave, asked, is_granted, Does, frees, unsets, assigns, makes, makes_none, gets, puts, prints, holds, fails, calls, returns, closes, ends, ends_last, Executes, Faults, by_free, by_action, Rests, exit, excludes, Comes, goes, faults, rests, past, is_lost}
+use Rattle.c_graph.specs.Executes.{function_of, callee_of_leave, asked, Does, frees, unsets, assigns, makes, makes_none, gets, puts, prints, holds, fails, calls, returns, closes, ends, ends_last, Faults, by_free, by_action, Rests, exit, excludes, Comes, goes, faults, rests, past, is_lost}
 use Rattle.c_graph.specs.Met.{micro_of}
 use Rattle.c_graph.specs.Moves.{At, stands, first_edge, allows, enters, leaves, moved, left, acted, done, behind_frees, at_kind, at_node}
-use Rattle.c_graph.specs.Nodes.{spot_at, next_at, Symbol, In, Out, Lead, lead, says, says_layer, way_said, on_leads, enter_leads, return_leads, leave_leads, leads_of, Placed, placed_at, exit_of, exit_at, all_placed, number_of, edge_of, graph}
+use Rattle.c_graph.specs.Nodes.{spot_at, next_at, Symbol, In, Out, Lead, lead, says, way_said, enter_leads, return_leads, leave_leads, leads_of, Placed, placed_at, exit_at, all_placed, number_of, edge_of, graph}
 use Rattle.c_graph.proofs.EdgeEnds.{edge_among, edge_is_led, function_there}
 use Rattle.c_graph.proofs.EdgeWays.{BackFrom, back_from, leads_back, enters_one, placed_of}
 use Rattle.c_graph.proofs.Homes.{IsCalled, is_called}
 use Rattle.c_graph.proofs.Instance.{says_so}
-use Rattle.c_graph.proofs.Lockstep.{taken, LeadsTo, said_leads}
+use Rattle.c_graph.proofs.Lockstep.{taken, said_leads}
 use Rattle.c_graph.proofs.Numbers.{IsPlaced, in_context, an_exit, all_are_placed, first_from, node_at}
 
 -- results

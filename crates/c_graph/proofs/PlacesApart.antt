@@ -1,5 +1,5 @@
 -- No place of a function is listed twice.
-use Rattle.std.proofs.Common.{◌≡◌, ℕ, zero, suc, ◌+◌, ◌<◌, ◌≤◌, ◌⊎◌, ⊎_elim, List, [], ◌∷◌, ◌++◌, map, length, slice_get, unwrap_or, Option, Some, None, option_map, refl, ap, sym, subst, ◌∙◌, arith}
+use Rattle.std.proofs.Common.{◌≡◌, ℕ, ◌+◌, ◌<◌, ◌≤◌, ⊎_elim, List, [], ◌∷◌, ◌++◌, map, length, slice_get, unwrap_or, Option, Some, None, option_map, refl, ap, sym, subst, ◌∙◌, arith}
 use Rattle.std.proofs.lemmas.List.{length-map, length-append}
 use Rattle.c_tree.specs.declared.expr.Expr.{Expr, Expr-F, roll-Expr, map-Expr, fold-roll-Expr, ind-Expr}
 use Rattle.c_tree.specs.declared.expr.Expr.TheOpen as layer
@@ -12,7 +12,7 @@ use Rattle.c_tree.specs.declared.program.Item.{Item, Item-F, roll-Item, fold-rol
 use Rattle.c_tree.specs.declared.program.Item.TheOpen.{Declare, Assign, Do, Nest, If, While, For, Break, Continue, Return}
 use Rattle.c_tree.specs.declared.program.Piece.{Piece, Piece-F, roll-Piece, fold-roll-Piece, map-Piece}
 use Rattle.c_tree.specs.declared.program.Program.{Program}
-use Rattle.c_meaning.specs.Parts.{Instruction, Part, One, Row, Condition, Within, called, assigned, declared, started, returned, condition_of, last_row, arm_parts, parts}
+use Rattle.c_meaning.specs.Parts.{Instruction, Part, One, Within, called, assigned, declared, started, returned, condition_of, last_row, arm_parts, parts}
 use Rattle.c_meaning.specs.Place.{tests_layer, tests_of, result_slot, brace_of, numbered, instruction_places, places_in, item_places, arm_places, block_places, piece_places, places_of, places_in_fun}
 use Rattle.call_contexts.proofs.Has.{Has, first, later, has_split, only_one}
 use Rattle.c_graph.specs.Nodes.{places}

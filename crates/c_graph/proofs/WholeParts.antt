@@ -1,5 +1,5 @@
 -- In a block of right types the parts of each item are instructions, rows of instructions, conditions and blocks of right types.
-use Rattle.std.proofs.Common.{◌≡◌, ℕ, zero, suc, ◌+◌, ◌==◌, ◌&&◌, Bool, true, false, List, [], ◌∷◌, ◌++◌, map, length, slice_get, Option, Some, None, option_map, option_and_then, refl, ap, sym, subst, ◌∙◌}
+use Rattle.std.proofs.Common.{◌≡◌, ℕ, zero, suc, ◌&&◌, Bool, true, List, [], ◌∷◌, ◌++◌, map, slice_get, Option, Some, None, option_map, option_and_then, refl, ap, sym, subst, ◌∙◌}
 use Rattle.std.specs.List.{list_all}
 use Rattle.std.proofs.lemmas.Bool.{and_parts}
 use Rattle.c_tree.specs.AlikeTest.{same_ty}
@@ -24,7 +24,7 @@ use Rattle.c_tree.specs.declared.program.Start.{Start}
 use Rattle.c_tree.specs.declared.program.Start.TheVariants as start
 use Rattle.c_tree.specs.declared.program.Ty.{Ty}
 use Rattle.c_meaning.specs.Parts.{Instruction, Invoke, Close, Part, One, Row, Condition, Within, variable_of, called, put_call, assigned, declared, started, returned, last_row, arm_parts, parts}
-use Rattle.c_meaning.specs.Place.{arm_test, arm_body, item_at, part_of, part_at}
+use Rattle.c_meaning.specs.Place.{arm_test, arm_body, item_at, part_of}
 
 -- it is an instruction, and no closing brace
 abbrev pub Is : Option Instruction → Type 0

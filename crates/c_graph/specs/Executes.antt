@@ -1,6 +1,6 @@
 -- What control does over an edge to the store of a machine, by kinds of edges; and what else may come of a node. Analyses state on
 -- it what is true of a run.
-use Rattle.std.specs.Prelude.{◌≡◌, ℕ, ◌==◌, ◌&&◌, Bool, true, false, not, ℤ, pos, negsuc, List, [], ◌∷◌, ◌++◌, drop, length, slice_get, option_map, Option, None, Some, Result, Ok, Err}
+use Rattle.std.specs.Prelude.{◌≡◌, ℕ, ◌==◌, ◌&&◌, Bool, true, false, not, ℤ, pos, negsuc, List, [], ◌∷◌, ◌++◌, drop, length, slice_get, option_map, Option, None, Some, Ok, Err}
 use Rattle.std.specs.List.{Contains, find}
 use Rattle.std.specs.Option.{option_and_then}
 use Rattle.c_tree.specs.Typing.{has}

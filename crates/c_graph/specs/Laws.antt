@@ -8,7 +8,6 @@ use Rattle.c_meaning.specs.Step.{counted}
 use Rattle.call_contexts.specs.Contexts.{contexts}
 use Rattle.c_graph.specs.declared.graph.Node.{Node}
 use Rattle.c_graph.specs.declared.graph.Edge.{Edge}
-use Rattle.c_graph.specs.declared.graph.Graph.{Graph}
 use Rattle.c_graph.specs.Executes.{Executes, Faults, Comes, sites_over}
 use Rattle.c_graph.specs.Met.{micro_of, sites_behind}
 use Rattle.c_graph.specs.Moves.{At, stands}
