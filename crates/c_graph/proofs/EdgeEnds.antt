@@ -1,5 +1,5 @@
 -- Edges lead from nodes to nodes, they ascend, and the graph says which function an edge leads back from.
-use Rattle.std.proofs.Common.{◌≡◌, ◌≢◌, ℕ, zero, suc, ◌+◌, ◌<◌, ◌==◌, ◌&&◌, inl, inr, ⊎_elim, Bool, true, false, cond, List, [], ◌∷◌, ◌++◌, map, length, slice_get, unwrap_or, Option, Some, None, option_map, option_and_then, refl, ap, sym, subst, ◌∙◌, arith}
+use Rattle.std.proofs.Common.{◌≡◌, ◌⊎◌, ◌≢◌, ℕ, zero, suc, ◌+◌, ◌<◌, ◌==◌, ◌&&◌, inl, inr, ⊎_elim, Bool, true, false, cond, List, [], ◌∷◌, ◌++◌, map, length, slice_get, unwrap_or, Option, Some, None, option_map, option_and_then, refl, ap, sym, subst, ◌∙◌, arith}
 use Rattle.std.specs.List.{All, AllPairs, Contains, find}
 use Rattle.std.specs.Option.{is_some}
 use Rattle.std.proofs.lemmas.Bool.{and_parts, eqb-true, eq-eqb}
@@ -109,6 +109,12 @@ module _ (p : Program) (cs : List Ctx) where
       let it = edge_from 0 (all_placed p cs) h in
       let on : 0 + it.place ≡ it.place = omega arith in
       (it.place, it.node, it.lead, it.stands, it.leads, it.is ∙ ap (λ (n : ℕ). edge_of p cs n it.lead) on)
+
+-- the ways on from one node: none, one, both of a malloc, or both of a test
+pub data Up : List Way → Type 0 where
+  none_up : Up []
+  one_up : (v : Way) → Up (v ∷ [])
+  two_up : (u v : Way) → way_rank u < way_rank v → ((u ≡ way.Made) × (v ≡ way.NotMade)) ⊎ ((u ≡ way.True) × (v ≡ way.False)) → Up (u ∷ v ∷ [])
 
 module _ (p : Program) (w : IsWellFormed p) where
   -- what an edge leads to is there
@@ -294,20 +300,15 @@ module _ (p : Program) (w : IsWellFormed p) where
 
   -- order
 
-  data Up : List Way → Type 0 where
-    none_up : Up []
-    one_up : (v : Way) → Up (v ∷ [])
-    two_up : (u v : Way) → way_rank u < way_rank v → Up (u ∷ v ∷ [])
-
   says_up : (l : Expr-F Expr) → Up (map way_said (says_layer l))
   says_up (layer.Const n offset) = one_up (way_said _)
-  says_up (layer.Null offset) = two_up way.True way.False (omega arith)
-  says_up (layer.Var x offset) = two_up way.True way.False (omega arith)
-  says_up (layer.Field a f offset) = two_up way.True way.False (omega arith)
-  says_up (layer.Deref a offset) = two_up way.True way.False (omega arith)
-  says_up (layer.Index a i offset) = two_up way.True way.False (omega arith)
-  says_up (layer.Unary s a offset) = two_up way.True way.False (omega arith)
-  says_up (layer.Binary o a b offset) = two_up way.True way.False (omega arith)
+  says_up (layer.Null offset) = two_up way.True way.False (omega arith) (inr (refl, refl))
+  says_up (layer.Var x offset) = two_up way.True way.False (omega arith) (inr (refl, refl))
+  says_up (layer.Field a f offset) = two_up way.True way.False (omega arith) (inr (refl, refl))
+  says_up (layer.Deref a offset) = two_up way.True way.False (omega arith) (inr (refl, refl))
+  says_up (layer.Index a i offset) = two_up way.True way.False (omega arith) (inr (refl, refl))
+  says_up (layer.Unary s a offset) = two_up way.True way.False (omega arith) (inr (refl, refl))
+  says_up (layer.Binary o a b offset) = two_up way.True way.False (omega arith) (inr (refl, refl))
 
   one_is_up : (ways : List Way) (v : Way) → ways ≡ v ∷ [] → Up ways
   one_is_up ways v e = subst Up (sym e) (one_up v)
@@ -322,7 +323,7 @@ module _ (p : Program) (w : IsWellFormed p) where
 
   action_up : (c : Ctx) (ways : List Way) (a : Action) → ActionWays p c ways a → Up ways
   action_up c ways (action.Test e) h = subst Up (sym h) (says_up (out-Expr e))
-  action_up c ways (action.Malloc place size offset) h = subst Up (sym h) (two_up way.Made way.NotMade (omega arith))
+  action_up c ways (action.Malloc place size offset) h = subst Up (sym h) (two_up way.Made way.NotMade (omega arith) (inl (refl, refl)))
   action_up c ways (action.Call callee arguments) h = one_is_up ways way.Enter h
   action_up c ways (action.Return value) h = leaves_up c.home ways h
   action_up c ways action.Close h = brace_up c.home ways (brace_leads p c.fun) h
@@ -346,7 +347,7 @@ module _ (p : Program) (w : IsWellFormed p) where
   leads_ascend : (v : ℕ) (ls : List Lead) (rest : List Edge) → Up (map (λ (l : Lead). l.way) ls) → After v rest → AllPairs StandsBefore rest → AllPairs StandsBefore (map (edge_of p (contexts p) v) ls ++ rest)
   leads_ascend v [] rest up after pairs = pairs
   leads_ascend v (l ∷ []) rest up after pairs = AllPairs-cons StandsBefore (edge_of p (contexts p) v l) rest (before_all (edge_of p (contexts p) v l) rest after) pairs
-  leads_ascend v (l ∷ m ∷ []) rest (two_up _ _ less) after pairs =
+  leads_ascend v (l ∷ m ∷ []) rest (two_up _ _ less pair) after pairs =
       AllPairs-cons StandsBefore (edge_of p (contexts p) v l) (edge_of p (contexts p) v m ∷ rest)
       (All-cons (StandsBefore (edge_of p (contexts p) v l)) (edge_of p (contexts p) v m) rest (inr (refl, inl less)) (before_all (edge_of p (contexts p) v l) rest after))
       (AllPairs-cons StandsBefore (edge_of p (contexts p) v m) rest (before_all (edge_of p (contexts p) v m) rest after) pairs)
@@ -365,8 +366,11 @@ module _ (p : Program) (w : IsWellFormed p) where
       omega arith)
       (ascend_from (b + 1) xs (λ y h. up y (later h)))
 
+  pub placed_up : (y : Placed) → Has y (all_placed p (contexts p)) → Up (map (λ (l : Lead). l.way) y.leads)
+  placed_up y h = let it = of_placed p w y (all_are_placed p (contexts p) h) in node_up it.0 (map (λ (l : Lead). l.way) y.leads) y.node.kind it.2
+
   pub ascends : Ascends (graph p (contexts p))
-  ascends = ascend_from 0 (all_placed p (contexts p)) (λ y h. let it = of_placed p w y (all_are_placed p (contexts p) h) in node_up it.0 (map (λ (l : Lead). l.way) y.leads) y.node.kind it.2)
+  ascends = ascend_from 0 (all_placed p (contexts p)) placed_up
 
   -- the function that an edge leads back from
 

@@ -1,7 +1,7 @@
 -- Edges leave each node in all the ways of what stands there, and in no other.
 use Rattle.std.proofs.Common.{◌≡◌, ◌≢◌, ℕ, zero, suc, ◌+◌, ◌<◌, ◌==◌, ⊎_elim, Bool, true, false, List, [], ◌∷◌, ◌++◌, map, length, slice_get, unwrap_or, Option, Some, None, option_map, option_and_then, refl, ap, sym, subst, ◌∙◌, arith, flat_map, append-nil}
 use Rattle.std.specs.Prelude.{if◌then◌else◌}
-use Rattle.std.specs.List.{filter}
+use Rattle.std.specs.List.{Contains, filter}
 use Rattle.std.proofs.lemmas.Bool.{eqb-true, eq-eqb}
 use Rattle.std.proofs.lemmas.Option.{slice_get-map}
 use Rattle.c_tree.specs.Typing.{declarations}
@@ -20,11 +20,12 @@ use Rattle.call_contexts.specs.Calls.{calls_by_function, calls_of}
 use Rattle.call_contexts.specs.Contexts.{context, contexts, callee_of, home_of}
 use Rattle.call_contexts.proofs.CallLaws.{row_of}
 use Rattle.call_contexts.proofs.ContextLaws.{callee_stands, main_first}
-use Rattle.call_contexts.proofs.Has.{Has, first, later, only_one, has_get}
+use Rattle.call_contexts.proofs.Has.{Has, first, later, only_one, has_get, contains_has, has_contains}
 use Rattle.c_graph.specs.declared.graph.Way.{Way}
 use Rattle.c_graph.specs.declared.graph.Way.TheVariants as way
 use Rattle.c_graph.specs.declared.graph.Node.{Node}
 use Rattle.c_graph.specs.declared.graph.Edge.{Edge}
+use Rattle.c_graph.specs.declared.graph.Graph.{Graph}
 use Rattle.c_graph.specs.Actions.{action_of}
 use Rattle.c_graph.specs.Nodes.{spot_at, next_at, places, In, Lead, lead, says, way_said, enter_leads, back_leads, return_leads, leave_leads, leads_of, Placed, placed_at, exit_at, all_placed, edge_of, edges_from, graph}
 use Rattle.c_graph.specs.Ways.{ways_at, LeavesBy, BraceWays, ActionWays, NodeWays, HasItsWays}
@@ -32,7 +33,7 @@ use Rattle.c_graph.proofs.Follows.{HasCallsInOrder, calls_in_order}
 use Rattle.c_graph.proofs.Listed.{stands_listed}
 use Rattle.c_graph.proofs.Invoked.{call_of, spot_calls, invoked}
 use Rattle.c_graph.proofs.Numbers.{IsPlaced, in_context, an_exit, all_are_placed}
-use Rattle.c_graph.proofs.PlacesApart.{Apart, no_more, one_more, places_apart}
+use Rattle.c_graph.proofs.PlacesApart.{Apart, no_more, one_more, has_of_map, places_apart}
 use Rattle.c_graph.proofs.CallsStand.{IsCall, is_call, block_stands}
 use Rattle.c_graph.proofs.Lands.{types_right}
 use Rattle.c_graph.proofs.Braces.{closing_place}
@@ -95,6 +96,26 @@ module _ (p : Program) (cs : List Ctx) where
 
   ways_of_node : (v : ℕ) (y : Placed) → slice_get (all_placed p cs) v ≡ Some y → ways_at (graph p cs) v ≡ lead_ways y.leads
   ways_of_node v y e = ap (map (λ (d : Edge). d.way)) (edges_at_node v y e) ∙ ways_of_edges v y.leads
+
+-- each way on from a node is that of an edge from there
+
+way_of : {w : Way} (es : List Edge) → Has w (map (λ (e : Edge). e.way) es) → (e : Edge) × Has e es × (w ≡ e.way)
+way_of es h = has_of_map (λ (e : Edge). e.way) es h
+
+kept_by : {A : Type 0} {y : A} (test : A → Bool) (x : A) (xs : List A) (b : Bool) → test x ≡ b → Has y (if b then x ∷ filter test xs else filter test xs) → (Has y (filter test xs) → Has y xs × (test y ≡ true)) → Has y (x ∷ xs) × (test y ≡ true)
+kept_by test x xs true is first rest = (first, is)
+kept_by test x xs true is (later h) rest = let it = rest h in (later it.0, it.1)
+kept_by test x xs false is h rest = let it = rest h in (later it.0, it.1)
+
+filtered : {A : Type 0} {y : A} (test : A → Bool) (xs : List A) → Has y (filter test xs) → Has y xs × (test y ≡ true)
+filtered test [] h = elim h [ ]
+filtered test (x ∷ xs) h = kept_by test x xs (test x) refl h (filtered test xs)
+
+pub edge_of_way : (g : Graph) (v : ℕ) (w : Way) → Contains (ways_at g v) w → (e : Edge) × Contains g.edges e × (e.from ≡ v) × (e.way ≡ w)
+edge_of_way g v w h =
+    let it = way_of (filter (from_node v) g.edges) (contains_has (ways_at g v) w h) in
+    let there = filtered (from_node v) g.edges it.1 in
+    (it.0, has_contains g.edges there.0, eqb-true it.0.from v there.1, sym it.2)
 
 -- returns lead back in one way
 

@@ -15,6 +15,7 @@ use Rattle.c_graph.specs.Nodes.{graph}
 use Rattle.c_graph.proofs.Births.{kept_sites, executed_bears, faults_many}
 use Rattle.c_graph.proofs.EdgeEnds.{leads_to_nodes, ends_at_exits, ascends, leaves_callee}
 use Rattle.c_graph.proofs.EdgeWays.{has_its_ways}
+use Rattle.c_graph.proofs.Exact.{micro_over}
 use Rattle.c_graph.proofs.MetRuns.{met_keeps, run_met}
 use Rattle.c_graph.proofs.Outcomes.{micro_comes}
 
@@ -27,6 +28,7 @@ has_laws p w = record {
   order = ascends p w;
   leaves = leaves_callee p w;
   goes = micro_comes p w;
+  over = micro_over p w;
   bears = λ e s t sites h. executed_bears e s t sites h;
 }
 

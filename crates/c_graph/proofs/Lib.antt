@@ -14,8 +14,9 @@ mod CallsStand
 mod Lands
 mod Braces
 mod Homes
-mod EdgeWays
-mod EdgeEnds
+pub mod EdgeWays
+pub mod EdgeEnds
 pub mod Outcomes
-mod Births
+pub mod Births
 pub mod Kept
+mod Exact

@@ -18,6 +18,10 @@ use Rattle.c_graph.specs.Ways.{HasItsWays, LeavesCallee, LeadsToNodes, EndsAtExi
 abbrev pub GoesByEdges : Program → Type 0
 GoesByEdges p = (v : ℕ) (s : Store) → is_over s.ending ≡ false → Comes p (graph p (contexts p)) v s (micro_of p (stands v s))
 
+-- and where an edge is executed, control goes over it
+abbrev pub GoesOver : Program → Type 0
+GoesOver p = (e : Edge) (s t : Store) → Contains (graph p (contexts p)).edges e → is_over s.ending ≡ false → Executes p (graph p (contexts p)) e s t → micro_of p (stands e.from s) ≡ stands e.to t
+
 -- an object that is born gets the first node of that edge as its site, and nothing else changes sites
 abbrev pub BearsOnMade : Program → Type 0
 BearsOnMade p = (e : Edge) (s t : Store) (sites : List ℕ) → Executes p (graph p (contexts p)) e s t → sites_behind e.from s t sites ≡ sites_over e sites
@@ -30,6 +34,7 @@ pub record HasLaws (p : Program) : Type 0 where
   pub order : Ascends (graph p (contexts p))
   pub leaves : LeavesCallee p
   pub goes : GoesByEdges p
+  pub over : GoesOver p
   pub bears : BearsOnMade p
 
 -- P holds at the start of a run, and is kept by the begin of a step, over each edge, and by each fault
