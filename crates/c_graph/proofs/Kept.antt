@@ -1,12 +1,15 @@
 -- What is kept over each edge and by each fault holds of all that a run meets.
-use Rattle.std.proofs.Common.{◌≡◌, ℕ, inl, inr, Bool, false, List, length, refl, ap, sym, subst, ◌∙◌, arith}
-use Rattle.std.proofs.lemmas.Option.{slice_get_past}
+use Rattle.std.proofs.Common.{◌≡◌, ℕ, ◌<◌, inl, inr, Bool, false, List, slice_get, length, Option, Some, None, refl, ap, sym, subst, ◌∙◌, arith}
+use Rattle.std.proofs.lemmas.List.Elements.{All-contains}
+use Rattle.std.proofs.lemmas.Option.{slice_get_past, slice_get_within}
 use Rattle.c_tree.specs.WellFormed.{IsWellFormed}
+use Rattle.c_tree.specs.declared.program.FunDef.{FunDef}
 use Rattle.c_tree.specs.declared.program.Program.{Program}
 use Rattle.c_meaning.specs.Machine.{Store}
 use Rattle.c_meaning.specs.Effects.{is_over}
 use Rattle.c_meaning.specs.Step.{acts, counted}
 use Rattle.call_contexts.specs.Contexts.{contexts}
+use Rattle.call_contexts.proofs.ContextLaws.{main_first}
 use Rattle.c_graph.specs.Executes.{Comes, goes, faults, rests, past, is_lost}
 use Rattle.c_graph.specs.Laws.{HasLaws, IsKept, HoldsOrLost}
 use Rattle.c_graph.specs.Met.{Met, micro_of, node_run, sites_behind}
@@ -16,6 +19,9 @@ use Rattle.c_graph.proofs.Births.{kept_sites, executed_bears, faults_many}
 use Rattle.c_graph.proofs.EdgeEnds.{leads_to_nodes, ends_at_exits, ascends, leaves_callee}
 use Rattle.c_graph.proofs.EdgeWays.{has_its_ways}
 use Rattle.c_graph.proofs.Exact.{micro_over}
+use Rattle.c_graph.proofs.Follows.{calls_in_order}
+use Rattle.c_graph.proofs.Numbers.{node_at}
+use Rattle.c_graph.proofs.Starts.{first_node}
 use Rattle.c_graph.proofs.MetRuns.{met_keeps, run_met}
 use Rattle.c_graph.proofs.Outcomes.{micro_comes}
 
@@ -63,3 +69,26 @@ module _ (p : Program) (w : IsWellFormed p) (input : List ℕ) (fails : List Boo
   -- and after each number of steps
   pub run_holds : (n : ℕ) → (sites : List ℕ) × Met p input fails (node_run p input fails n) sites × HoldsOrLost p P (node_run p input fails n) sites
   run_holds n = let it = run_met p input fails n in (it.0, it.1, met_holds it.1)
+
+-- so control is at a node, until it is lost
+
+main_found : (p : Program) → IsWellFormed p → (o : Option FunDef) → slice_get p.funs p.main ≡ o → (d : FunDef) × (slice_get p.funs p.main ≡ Some d)
+main_found p w None e = absurd ((calls_in_order p w).main e)
+main_found p w (Some d) e = (d, e)
+
+first_within : (p : Program) → IsWellFormed p → 0 < length (graph p (contexts p)).nodes
+first_within p w =
+    let main = main_found p w (slice_get p.funs p.main) refl in
+    let it = first_node p (contexts p) p.main main.0 None main.1 (main_first p (calls_in_order p w).calls) in
+    slice_get_within (graph p (contexts p)).nodes 0 it.0.node (node_at p (contexts p) 0 it.0 it.2)
+
+pub met_within : (p : Program) → IsWellFormed p → (input : List ℕ) (fails : List Bool) {x : At Store} {sites : List ℕ} → Met p input fails x sites → HoldsOrLost p (λ v s us. v < length (graph p (contexts p)).nodes) x sites
+met_within p w input fails met =
+    met_holds p w input fails (λ v s us. v < length (graph p (contexts p)).nodes)
+    (record {
+      starts = first_within p w;
+      begins = λ v s us going below. below;
+      goes = λ e s t us among going executes below. (All-contains (λ d. (d.from < length (graph p (contexts p)).nodes) × (d.to < length (graph p (contexts p)).nodes)) (graph p (contexts p)).edges e (leads_to_nodes p w) among).1;
+      faults = λ v n s t us at going fault below. below;
+    })
+    met

@@ -44,6 +44,7 @@ abbrev pub callee_in : Action → Option ℕ
 callee_in (action.Call callee arguments) = Some callee
 callee_in a = None
 
+-- the function that what stands at a node calls
 abbrev pub callee_in_kind : NodeKind → Option ℕ
 callee_in_kind (Act a) = callee_in a
 callee_in_kind (Gap number frees) = None
@@ -142,7 +143,7 @@ pub data Comes (p : Program) (g : Graph) (v : ℕ) (s : Store) : At Store → Ty
   rests : (n : Node) → slice_get g.nodes v ≡ Some n → Rests p s n.kind → Comes p g v s (stands v s)
   -- nor where control is past all nodes
   past : slice_get g.nodes v ≡ None → Comes p g v s (stands v s)
-  -- it would be lost so behind the closing brace of a function with a result, where no edge leads on (6.9.1p12)
+  -- control would be lost behind the closing brace of a function with a result, where no edge leads on and it doesn't come (6.9.1p12)
   is_lost : (n : Node) → slice_get g.nodes v ≡ Some n → n.kind ≡ Act action.Close → ((e : Edge) → Contains g.edges e → e.from ≡ v → ⊥) → Comes p g v s (stands (length g.nodes) s)
 
 -- sites
@@ -152,5 +153,6 @@ abbrev pub sites_by : ℕ → Way → List ℕ → List ℕ
 sites_by v way.Made sites = sites ++ v ∷ []
 sites_by v w sites = sites
 
+-- the same, of an edge
 abbrev pub sites_over : Edge → List ℕ → List ℕ
 sites_over e sites = sites_by e.from e.way sites

@@ -44,6 +44,6 @@ pub record IsKept (p : Program) (input : List ℕ) (fails : List Bool) (P : ℕ 
   pub goes : (e : Edge) (s t : Store) (sites : List ℕ) → Contains (graph p (contexts p)).edges e → is_over s.ending ≡ false → Executes p (graph p (contexts p)) e s t → P e.from s sites → P e.to t (sites_over e sites)
   pub faults : (v : ℕ) (n : Node) (s t : Store) (sites : List ℕ) → slice_get (graph p (contexts p)).nodes v ≡ Some n → is_over s.ending ≡ false → Faults p s n.kind t → P v s sites → P v t sites
 
--- P holds of a node with a store and its sites, or control is past all nodes and nothing more will happen
+-- P holds of a node with a store and its sites; or control is past all nodes, where nothing happens any more
 abbrev pub HoldsOrLost : Program → (ℕ → Store → List ℕ → Type 0) → At Store → List ℕ → Type 0
 HoldsOrLost p P x sites = P x.node x.store sites ⊎ ((x.node ≡ length (graph p (contexts p)).nodes) × (is_over x.store.ending ≡ false))

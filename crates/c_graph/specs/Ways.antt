@@ -35,6 +35,7 @@ LeavesBy (Some home) ways = (target : Option ℕ) × (ways ≡ way.Leave target 
 abbrev pub brace_leads : Program → ℕ → Bool
 brace_leads p f = has (λ d. goes_back p f d.result) (slice_get p.funs f)
 
+-- the ways on from a closing brace, by whether control goes back from it
 abbrev pub BraceWays : Option (ℕ × ℕ) → List Way → Bool → Type 0
 BraceWays home ways true = LeavesBy home ways
 BraceWays home ways false = ways ≡ []
