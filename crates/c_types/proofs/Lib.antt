@@ -1,4 +1,5 @@
 mod ArgumentLaws
+pub mod BlockInduction
 mod BlockLaws
 mod CallLaws
 mod CallTables
@@ -9,12 +10,15 @@ pub mod FunctionRules
 mod InTurnLaws
 mod JudgedLaws
 mod Live
+pub mod Functionwise
+pub mod Growing
 pub mod LooseJumps
 pub mod Numbering
 pub mod NumberingCalls
 pub mod NumberingLeaves
 pub mod NumberingTops
 mod Peeled
+pub mod Standing
 pub mod TableLemmas
 mod StatementLaws
 mod Zeros
