@@ -17,7 +17,9 @@ pub mod Numbering
 pub mod NumberingCalls
 pub mod NumberingLeaves
 pub mod NumberingTops
+pub mod Passing
 mod Peeled
+pub mod Rows
 pub mod Standing
 pub mod TableLemmas
 mod StatementLaws
