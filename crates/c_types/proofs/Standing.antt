@@ -68,6 +68,7 @@ pub record Grows (h : Home) (w u : Walk) : Type 0 where
   pub homes : (k : ℕ) (v : VarDef) → slice_get more_vars k ≡ Some v → v.home ≡ h
   pub more_structs : List StructRow
   pub structs : u.scope.structs ≡ w.scope.structs ++ more_structs
+  pub bodiless : (k : ℕ) (row : StructRow) → slice_get more_structs k ≡ Some row → row.body ≡ None
   pub more_names : List (List ℕ × Entry)
   pub names : u.scope.names ≡ w.scope.names ++ more_names
   pub locals : (n : List ℕ) (e : Entry) → found more_names n ≡ Some e → IsLocal e.meaning
@@ -133,6 +134,7 @@ grows_all h w = record {
   homes = λ k v e. get_none (λ (v : VarDef). v.home ≡ h) k v e;
   more_structs = [];
   structs = sym (append-nil w.scope.structs);
+  bodiless = λ k row e. get_none (λ (row : StructRow). row.body ≡ None) k row e;
   more_names = [];
   names = sym (append-nil w.scope.names);
   locals = λ n e is. found_none (λ (e : Entry). IsLocal e.meaning) n e is;
@@ -150,6 +152,7 @@ grows_both h w u v f g = record {
   homes = λ k x e. get_either (λ (x : VarDef). x.home ≡ h) f.more_vars g.more_vars f.homes g.homes k x e;
   more_structs = f.more_structs ++ g.more_structs;
   structs = g.structs ∙ ap (λ (xs : List StructRow). xs ++ g.more_structs) f.structs ∙ append_assoc w.scope.structs f.more_structs g.more_structs;
+  bodiless = λ k row e. get_either (λ (row : StructRow). row.body ≡ None) f.more_structs g.more_structs f.bodiless g.bodiless k row e;
   more_names = f.more_names ++ g.more_names;
   names = g.names ∙ ap (λ (xs : List (List ℕ × Entry)). xs ++ g.more_names) f.names ∙ append_assoc w.scope.names f.more_names g.more_names;
   locals = λ n. found_either (λ (e : Entry). IsLocal e.meaning) f.more_names g.more_names n (f.locals n) (g.locals n);
@@ -188,6 +191,7 @@ closes h w u g = record {
   homes = g.homes;
   more_structs = g.more_structs;
   structs = g.structs;
+  bodiless = g.bodiless;
   more_names = [];
   names = left_names w u g.more_names g.names ∙ sym (append-nil w.scope.names);
   locals = λ n e is. found_none (λ (e : Entry). IsLocal e.meaning) n e is;
