@@ -284,16 +284,16 @@ returned_there h body w s =
 
 -- structs
 
-untagged_grows : (h : Home) (w : Walk) → Grows h w (with_scope w (untagged w.scope).0)
+pub untagged_grows : (h : Home) (w : Walk) → Grows h w (with_scope w (untagged w.scope).0)
 untagged_grows h w =
     let long : length (w.scope.structs ++ new_struct ∷ []) ≡ length w.scope.structs + 1 = length-append w.scope.structs (new_struct ∷ []) in
     struct_more h w.scope.tags w (λ s n k is. let below : k < length w.scope.structs = s.tags n k is in omega arith) (λ n k is. is)
 
-numbered_grows : (h : Home) (tag : Option Word) (w : Walk) → Grows h w (with_scope w (numbered tag w.scope).0)
+pub numbered_grows : (h : Home) (tag : Option Word) (w : Walk) → Grows h w (with_scope w (numbered tag w.scope).0)
 numbered_grows h None w = untagged_grows h w
 numbered_grows h (Some n) w = tag_grows h n w (found w.scope.tags n.text)
 
-numbered_there : (tag : Option Word) (w : Walk) → Standing w → (numbered tag w.scope).1 < length (numbered tag w.scope).0.structs
+pub numbered_there : (tag : Option Word) (w : Walk) → Standing w → (numbered tag w.scope).1 < length (numbered tag w.scope).0.structs
 numbered_there None w s = let long : length (w.scope.structs ++ new_struct ∷ []) ≡ length w.scope.structs + 1 = length-append w.scope.structs (new_struct ∷ []) in omega arith
 numbered_there (Some n) w s = tag_there n w (found w.scope.tags n.text) (s.tags n.text)
 
@@ -317,7 +317,7 @@ one_field_grows h d rows w =
     let v = noted (type_faults r.1) u in
     grows_both h w u (walked_field d rows w).0 (spec_grows h d w) (grows_both h u v (walked_field d rows w).0 (note_grows h (type_faults r.1) u) (field_name_grows h d r.1 rows d.name v))
 
-fields_grow : (h : Home) (ds : List Spec) (r : Walk × Fields) → Grows h r.0 (fold field_turn r ds).0
+pub fields_grow : (h : Home) (ds : List Spec) (r : Walk × Fields) → Grows h r.0 (fold field_turn r ds).0
 fields_grow h [] r = grows_all h r.0
 fields_grow h (d ∷ ds) r = grows_both h r.0 (walked_field d r.1 r.0).0 (fold field_turn r (d ∷ ds)).0 (one_field_grows h d r.1 r.0) (fields_grow h ds (walked_field d r.1 r.0))
 
