@@ -17,4 +17,7 @@ pub mod NumberingTops
 mod Peeled
 pub mod TableLemmas
 mod StatementLaws
+pub mod TypedCalls
+pub mod TypedExpressions
+pub mod TypedStatements
 mod Zeros
