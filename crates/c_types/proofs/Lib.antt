@@ -23,4 +23,7 @@ pub mod Rows
 pub mod Standing
 pub mod TableLemmas
 mod StatementLaws
+pub mod TypedCalls
+pub mod TypedExpressions
+pub mod TypedStatements
 mod Zeros
