@@ -12,6 +12,7 @@ mod JudgedLaws
 mod Live
 pub mod Functionwise
 pub mod Growing
+pub mod Headings
 pub mod LooseJumps
 pub mod Numbering
 pub mod NumberingCalls
@@ -19,10 +20,13 @@ pub mod NumberingLeaves
 pub mod NumberingTops
 pub mod Passing
 mod Peeled
+pub mod ProgramRules
 pub mod Rows
 pub mod Standing
 pub mod TableLemmas
 mod StatementLaws
+pub mod Visible
+pub mod VisibleBlocks
 pub mod TypedCalls
 pub mod TypedExpressions
 pub mod TypedStatements
