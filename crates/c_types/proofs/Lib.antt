@@ -10,6 +10,7 @@ pub mod FunctionRules
 mod InTurnLaws
 mod JudgedLaws
 mod Live
+pub mod ProgramDeclared
 pub mod Functionwise
 pub mod Growing
 pub mod Headings

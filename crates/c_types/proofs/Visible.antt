@@ -325,7 +325,7 @@ module _ (s : Scope) (seen : List ℕ) (covers : Covers s seen) where
 
 -- what changes in a scope at a call are tags, not names
 
-tagged_names : (n : Word) (s : Scope) (o : Option ℕ) → (tagged_by n s o).0.names ≡ s.names
+pub tagged_names : (n : Word) (s : Scope) (o : Option ℕ) → (tagged_by n s o).0.names ≡ s.names
 tagged_names n s None = refl
 tagged_names n s (Some k) = refl
 

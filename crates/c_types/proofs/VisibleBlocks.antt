@@ -63,13 +63,13 @@ use Rattle.c_types.proofs.Standing.{Grows, grows_all, grows_both, closes, left_n
 use Rattle.c_types.proofs.Visible.{shown, Covers, covers_on, judged_shown, judged_shows, CallShows, call_shows, call_names, right_shows, right_names, assigned_shown, initial_shown, returned_shown, based_names}
 
 -- a part leads from what is visible before it to what is visible behind it
-pub record Leads (w u : Walk) (s : seen_in.Scope) (seen : List ℕ) : Type 0 where
+pub record Leads (u : Walk) (s : seen_in.Scope) (seen : List ℕ) : Type 0 where
   pub behind : List ℕ
   pub is : s seen ≡ Some behind
   pub covers : Covers u.scope behind
 
 abbrev pub Sees : Walk → Walk → seen_in.Scope → Type 0
-Sees w u s = (seen : List ℕ) → Covers w.scope seen → Leads w u s seen
+Sees w u s = (seen : List ℕ) → Covers w.scope seen → Leads u s seen
 
 -- a part that declares nothing
 part_sees : (w u : Walk) (xs : List ℕ) → u.scope.names ≡ w.scope.names → ((seen : List ℕ) → Covers w.scope seen → shown seen xs ≡ true) → Sees w u (sees xs)
@@ -318,7 +318,7 @@ seeing_law = record {
       };
   pieces = λ p g from to w u x i. record {
     grows = grows_both (home.Local p.function) w (walked_gap g w).0 u (gap_grows (home.Local p.function) g w) i.grows;
-    sees = λ seen covers. i.sees seen (covers_on w.scope (walked_gap g w).0.scope seen (gap_names g w) covers);
+    sees = λ seen covers. let l = i.sees seen (covers_on w.scope (walked_gap g w).0.scope seen (gap_names g w) covers) in record { behind = l.behind; is = l.is; covers = l.covers };
   };
 }
 
