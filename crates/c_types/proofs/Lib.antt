@@ -1,4 +1,5 @@
 mod ArgumentLaws
+pub mod BlockInduction
 mod BlockLaws
 mod CallLaws
 mod CallTables
@@ -9,12 +10,17 @@ pub mod FunctionRules
 mod InTurnLaws
 mod JudgedLaws
 mod Live
+pub mod Functionwise
+pub mod Growing
 pub mod LooseJumps
 pub mod Numbering
 pub mod NumberingCalls
 pub mod NumberingLeaves
 pub mod NumberingTops
+pub mod Passing
 mod Peeled
+pub mod Rows
+pub mod Standing
 pub mod TableLemmas
 mod StatementLaws
 pub mod TypedCalls
