@@ -23,7 +23,9 @@ pub mod Rows
 pub mod Standing
 pub mod TableLemmas
 mod StatementLaws
+pub mod TypedBlocks
 pub mod TypedCalls
 pub mod TypedExpressions
+pub mod TypedParts
 pub mod TypedStatements
 mod Zeros

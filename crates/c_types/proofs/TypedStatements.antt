@@ -50,6 +50,12 @@ use Rattle.c_types.proofs.NumberingCalls.{second_empty}
 use Rattle.c_types.proofs.TypedExpressions.{made_sort, Stands, IsRight, AllRight, opens, expr_right}
 use Rattle.c_types.proofs.TypedCalls.{kept, IsCalled, value_goes, GivesRight, CallRight, AllCall, call_right}
 
+-- a result whose type broke no rule
+abbrev pub IsGood : Returned → Type 0
+IsGood returned.Nothing = Unit {0}
+IsGood (returned.Value t) = Unit {0}
+IsGood (returned.Bad f) = ⊥
+
 -- places
 
 places_agree : (x : Made-F Made) → is_place_layer x ≡ true → made_place x ≡ true
@@ -171,12 +177,6 @@ module _ (d : Declarations) where
   pub initial_right : (t : Ty) (at : ℕ) (j : Judged RightValue) → AllValue j → (initial (Good t) at j).faults ≡ [] → value_fits d t (initial (Good t) at j).made ≡ true
   initial_right t at (Broken fs) h none = absurd (h none)
   initial_right t at (Typed r) h none = typed_fits (λ c. true) t at r h (all_taken r) none
-
-  -- a result without fault
-  abbrev pub IsGood : Returned → Type 0
-  IsGood returned.Nothing = Unit {0}
-  IsGood (returned.Value t) = Unit {0}
-  IsGood (returned.Bad f) = ⊥
 
   -- a returned value
   pub returned_right : (t : Returned) → IsGood t → (at : ℕ) (j : Judged RightValue) → AllValue j → (returned_value t at j).faults ≡ []
