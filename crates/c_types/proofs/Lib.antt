@@ -1,6 +1,7 @@
 mod ArgumentLaws
 pub mod BlockInduction
 mod BlockLaws
+pub mod Bodies
 mod CallLaws
 mod CallTables
 pub mod FaultLemmas
@@ -27,5 +28,6 @@ pub mod TypedBlocks
 pub mod TypedCalls
 pub mod TypedExpressions
 pub mod TypedParts
+pub mod TypedPrograms
 pub mod TypedStatements
 mod Zeros

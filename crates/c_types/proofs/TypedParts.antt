@@ -73,7 +73,7 @@ pub record Ready (behind : ℕ → Bool) (w : Walk) : Type 0 where
   pub bodies : (n : ℕ) (row : StructRow) (body at : ℕ) → slice_get w.scope.structs n ≡ Some row → row.body ≡ Some body → behind at ≡ true → nat_lt body at ≡ true
 
 -- a struct with a body is none of those that come behind, which have none
-with_body : (rows more : List StructRow) → ((k : ℕ) (row : StructRow) → slice_get more k ≡ Some row → row.body ≡ None)
+pub with_body : (rows more : List StructRow) → ((k : ℕ) (row : StructRow) → slice_get more k ≡ Some row → row.body ≡ None)
     → (n : ℕ) (row : StructRow) (body : ℕ) → slice_get (rows ++ more) n ≡ Some row → row.body ≡ Some body → slice_get rows n ≡ Some row
 with_body [] more bare n row body is b = let no : None ≡ Some body = sym (bare n row is) ∙ b in absurd cc
 with_body (x ∷ rows) more bare zero row body is b = is
