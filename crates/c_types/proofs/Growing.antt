@@ -59,7 +59,7 @@ use Rattle.c_types.proofs.BlockInduction.{Reading, Law, Chain, done, next, block
 use Rattle.c_types.proofs.Numbering.{first_empty}
 use Rattle.c_types.proofs.NumberingCalls.{second_empty}
 use Rattle.c_types.proofs.Rows.{get_last, get_none, get_one, found_first, found_none, found_one, found_either, all_weaker, all_both}
-use Rattle.c_types.proofs.Standing.{there, there_more, result_more, type_in, Means, means_more, fields_there, fields_more, Standing, IsLocal, Grows, grows_all, grows_both, closes}
+use Rattle.c_types.proofs.Standing.{there, there_more, result_more, type_in, type_more, Means, means_more, fields_there, fields_more, Standing, IsLocal, Grows, grows_all, grows_both, closes}
 
 -- the smallest steps
 
@@ -72,6 +72,7 @@ note_grows h fs w = record {
   more_structs = [];
   structs = sym (append-nil w.scope.structs);
   bodiless = λ k row e. get_none (λ (row : StructRow). row.body ≡ None) k row e;
+  tags = λ n k is. is;
   more_names = [];
   names = sym (append-nil w.scope.names);
   locals = λ n e is. found_none (λ (e : Entry). IsLocal e.meaning) n e is;
@@ -90,6 +91,7 @@ number_grows h w u is = subst (Grows h w) (sym is) (record {
   more_structs = [];
   structs = sym (append-nil w.scope.structs);
   bodiless = λ k row e. get_none (λ (row : StructRow). row.body ≡ None) k row e;
+  tags = λ n k is. is;
   more_names = [];
   names = sym (append-nil w.scope.names);
   locals = λ n e is. found_none (λ (e : Entry). IsLocal e.meaning) n e is;
@@ -103,8 +105,8 @@ number_grows h w u is = subst (Grows h w) (sym is) (record {
 
 -- a struct more, with these tags
 pub struct_more : (h : Home) (tags : List (List ℕ × ℕ)) (w : Walk) → (Standing w → (n : List ℕ) (k : ℕ) → found tags n ≡ Some k → k < length (w.scope.structs ++ new_struct ∷ []))
-    → Grows h w (with_scope w (record w.scope { tags = tags; structs = w.scope.structs ++ new_struct ∷ [] }))
-struct_more h tags w known =
+    → ((n : List ℕ) (k : ℕ) → found w.scope.tags n ≡ Some k → found tags n ≡ Some k) → Grows h w (with_scope w (record w.scope { tags = tags; structs = w.scope.structs ++ new_struct ∷ [] }))
+struct_more h tags w known keeps =
     let k = length w.scope.structs in
     let l = length (w.scope.structs ++ new_struct ∷ []) in
     let long : l ≡ k + 1 = length-append w.scope.structs (new_struct ∷ []) in
@@ -117,6 +119,7 @@ struct_more h tags w known =
       more_structs = new_struct ∷ [];
       structs = refl;
       bodiless = λ k row e. get_one (λ (row : StructRow). row.body ≡ None) new_struct refl k row e;
+      tags = keeps;
       more_names = [];
       names = sym (append-nil w.scope.names);
       locals = λ n e is. found_none (λ (e : Entry). IsLocal e.meaning) n e is;
@@ -143,6 +146,7 @@ tag_more h n w =
     struct_more h (w.scope.tags ++ (n.text, k) ∷ []) w
     (λ s m. found_either (λ (j : ℕ). j < l) w.scope.tags ((n.text, k) ∷ []) m
       (λ j is. let below : j < k = s.tags m j is in omega arith) (λ j is. found_one (λ (j : ℕ). j < l) (n.text, k) (omega arith) m j is))
+    (λ m j is. found_first w.scope.tags ((n.text, k) ∷ []) m j is)
 
 pub tag_grows : (h : Home) (n : Word) (w : Walk) (o : Option ℕ) → Grows h w (with_scope w (tagged_by n w.scope o).0)
 tag_grows h n w None = tag_more h n w
@@ -239,6 +243,7 @@ var_grows h d w =
       more_structs = g.more_structs;
       structs = g.structs;
       bodiless = g.bodiless;
+      tags = g.tags;
       more_names = g.more_names;
       names = g.names;
       locals = g.locals;
@@ -258,6 +263,7 @@ name_more h n e w local means good = record {
   more_structs = [];
   structs = sym (append-nil w.scope.structs);
   bodiless = λ k row e. get_none (λ (row : StructRow). row.body ≡ None) k row e;
+  tags = λ n k is. is;
   more_names = (n.text, e) ∷ [];
   names = refl;
   locals = λ m x is. found_one (λ (x : Entry). IsLocal x.meaning) (n.text, e) local m x is;
@@ -297,15 +303,29 @@ variable_good : (k : ℕ) (t : Written) (fs : List Fault) → fs ++ type_faults 
 variable_good k (Good t) fs clean f is = absurd cc
 variable_good k (Bad e) fs clean f is = let none : e ∷ [] ≡ [] = second_empty fs (e ∷ []) clean in absurd cc
 
-pub declared_grows : (d : Spec) (h : Home) (depth : ℕ) (w : Walk) → Grows h w (declared d h depth w).0
-declared_grows d h depth w =
+-- what comes behind a variable's number
+pub name_behind_grows : (d : Spec) (h : Home) (depth : ℕ) (w : Walk) → let r = spec_type d w.scope in Grows h (with_var (var_of d r.1 h) (with_scope w r.0)) (declared d h depth w).0
+name_behind_grows d h depth w =
     let r = spec_type d w.scope in
     let v = with_var (var_of d r.1 h) (with_scope w r.0) in
     let c = noted (type_faults r.1) v in
-    grows_both h w v (declared d h depth w).0 (var_grows h d w)
-    (grows_both h v c (declared d h depth w).0 (note_grows h (type_faults r.1) v)
+    grows_both h v c (declared d h depth w).0 (note_grows h (type_faults r.1) v)
     (any_name_grows h d (record { meaning = variable_meaning (length w.vars) r.1; depth = depth }) c d.name (variable_local (length w.vars) r.1)
-    (variable_means d h r.1 w.vars (length c.scope.structs) (length c.signatures)) (variable_good (length w.vars) r.1 w.faults)))
+    (variable_means d h r.1 w.vars (length c.scope.structs) (length c.signatures)) (variable_good (length w.vars) r.1 w.faults))
+
+pub declared_grows : (d : Spec) (h : Home) (depth : ℕ) (w : Walk) → Grows h w (declared d h depth w).0
+declared_grows d h depth w =
+    let r = spec_type d w.scope in
+    grows_both h w (with_var (var_of d r.1 h) (with_scope w r.0)) (declared d h depth w).0 (var_grows h d w) (name_behind_grows d h depth w)
+
+-- a declared variable has the type that is written
+pub declared_type : (d : Spec) (h : Home) (depth : ℕ) (w : Walk) → type_in (declared d h depth w).0.vars (length w.vars) ≡ Some (or_int (spec_type d w.scope).1)
+declared_type d h depth w =
+    let r = spec_type d w.scope in
+    let v = var_of d r.1 h in
+    let g = name_behind_grows d h depth w in
+    ap (λ (vs : List VarDef). type_in vs (length w.vars)) g.vars
+    ∙ type_more (w.vars ++ v ∷ []) g.more_vars (length w.vars) v.ty (ap (option_map (λ (v : VarDef). v.ty)) (get_last w.vars v))
 
 -- calls
 

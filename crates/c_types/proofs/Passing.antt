@@ -74,7 +74,7 @@ pub grows_pass : (h : Home) (w u : Walk) → Grows h w u → Passes w u
 grows_pass h w u g s = record { onward = grows_onward h w u g; standing = g.stands s }
 
 -- a home, where none is asked for
-abbrev no_home : Home
+abbrev pub no_home : Home
 no_home = home.Local 0
 
 pub note_passes : (fs : List Fault) (w : Walk) → Passes w (noted fs w)
@@ -206,18 +206,18 @@ twice_passes n body h (meaning.Bad f) w = passes_all w
 twice_passes n body h (meaning.Variable m t) w = note_passes _ w
 twice_passes n body h (meaning.Alias s) w = note_passes _ w
 
-by_passes : (n : Word) (body : Bool) (h : Heading) (o : Option Entry) (w : Walk) → IsGood w h → Passes w (function_by n body h o w)
+pub by_passes : (n : Word) (body : Bool) (h : Heading) (o : Option Entry) (w : Walk) → IsGood w h → Passes w (function_by n body h o w)
 by_passes n body h None w good = new_passes n body h w good
 by_passes n body h (Some e) w good = twice_passes n body h e.meaning w
 
-named_passes : (h : Head) (body : Bool) (t : Heading) (o : Option Word) (w : Walk) → IsGood w t → Passes w (function_named h body t o w)
+pub named_passes : (h : Head) (body : Bool) (t : Heading) (o : Option Word) (w : Walk) → IsGood w t → Passes w (function_named h body t o w)
 named_passes h body t None w good = note_passes _ w
 named_passes h body t (Some n) w good =
     let v = noted (main_faults h n) w in
     passes_both w v (function_named h body t (Some n) w) (note_passes (main_faults h n) w)
     (by_passes n body t (found w.scope.names n.text) v (λ c. good (first_empty w.faults (main_faults h n) c)))
 
-specs_grow : (h : Home) (ds : List Spec) (w : Walk) → Grows h w (with_scope w (each spec_type ds w.scope).0)
+pub specs_grow : (h : Home) (ds : List Spec) (w : Walk) → Grows h w (with_scope w (each spec_type ds w.scope).0)
 specs_grow h [] w = grows_all h w
 specs_grow h (d ∷ ds) w =
     let v = with_scope w (spec_type d w.scope).0 in
@@ -284,16 +284,16 @@ returned_there h body w s =
 
 -- structs
 
-untagged_grows : (h : Home) (w : Walk) → Grows h w (with_scope w (untagged w.scope).0)
+pub untagged_grows : (h : Home) (w : Walk) → Grows h w (with_scope w (untagged w.scope).0)
 untagged_grows h w =
     let long : length (w.scope.structs ++ new_struct ∷ []) ≡ length w.scope.structs + 1 = length-append w.scope.structs (new_struct ∷ []) in
-    struct_more h w.scope.tags w (λ s n k is. let below : k < length w.scope.structs = s.tags n k is in omega arith)
+    struct_more h w.scope.tags w (λ s n k is. let below : k < length w.scope.structs = s.tags n k is in omega arith) (λ n k is. is)
 
-numbered_grows : (h : Home) (tag : Option Word) (w : Walk) → Grows h w (with_scope w (numbered tag w.scope).0)
+pub numbered_grows : (h : Home) (tag : Option Word) (w : Walk) → Grows h w (with_scope w (numbered tag w.scope).0)
 numbered_grows h None w = untagged_grows h w
 numbered_grows h (Some n) w = tag_grows h n w (found w.scope.tags n.text)
 
-numbered_there : (tag : Option Word) (w : Walk) → Standing w → (numbered tag w.scope).1 < length (numbered tag w.scope).0.structs
+pub numbered_there : (tag : Option Word) (w : Walk) → Standing w → (numbered tag w.scope).1 < length (numbered tag w.scope).0.structs
 numbered_there None w s = let long : length (w.scope.structs ++ new_struct ∷ []) ≡ length w.scope.structs + 1 = length-append w.scope.structs (new_struct ∷ []) in omega arith
 numbered_there (Some n) w s = tag_there n w (found w.scope.tags n.text) (s.tags n.text)
 
@@ -317,7 +317,7 @@ one_field_grows h d rows w =
     let v = noted (type_faults r.1) u in
     grows_both h w u (walked_field d rows w).0 (spec_grows h d w) (grows_both h u v (walked_field d rows w).0 (note_grows h (type_faults r.1) u) (field_name_grows h d r.1 rows d.name v))
 
-fields_grow : (h : Home) (ds : List Spec) (r : Walk × Fields) → Grows h r.0 (fold field_turn r ds).0
+pub fields_grow : (h : Home) (ds : List Spec) (r : Walk × Fields) → Grows h r.0 (fold field_turn r ds).0
 fields_grow h [] r = grows_all h r.0
 fields_grow h (d ∷ ds) r = grows_both h r.0 (walked_field d r.1 r.0).0 (fold field_turn r (d ∷ ds)).0 (one_field_grows h d r.1 r.0) (fields_grow h ds (walked_field d r.1 r.0))
 

@@ -89,6 +89,11 @@ module _ {A : Type 0} where
   get_set P (z ∷ xs) (suc k) y zero x h old new = subst P (sym h) old
   get_set P (z ∷ xs) (suc k) y (suc j) x h old new = get_set P xs k y j x h old (λ e. new (ap suc e))
 
+  pub get_set_here : (xs : List A) (k : ℕ) (x y : A) → slice_get xs k ≡ Some x → slice_get (slice_set xs k y) k ≡ Some y
+  get_set_here [] k x y h = absurd cc
+  get_set_here (z ∷ xs) zero x y h = refl
+  get_set_here (z ∷ xs) (suc k) x y h = get_set_here xs k x y h
+
   pub all_set : (p : A → Bool) (xs : List A) (k : ℕ) (y : A) → list_all p xs ≡ true → p y ≡ true → list_all p (slice_set xs k y) ≡ true
   all_set p [] k y e h = refl
   all_set p (x ∷ xs) zero y e h = ap (λ (b : Bool). b && list_all p xs) h ∙ (and_parts (p x) (list_all p xs) e).1

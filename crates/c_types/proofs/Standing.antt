@@ -69,6 +69,7 @@ pub record Grows (h : Home) (w u : Walk) : Type 0 where
   pub more_structs : List StructRow
   pub structs : u.scope.structs ≡ w.scope.structs ++ more_structs
   pub bodiless : (k : ℕ) (row : StructRow) → slice_get more_structs k ≡ Some row → row.body ≡ None
+  pub tags : (n : List ℕ) (k : ℕ) → found w.scope.tags n ≡ Some k → found u.scope.tags n ≡ Some k
   pub more_names : List (List ℕ × Entry)
   pub names : u.scope.names ≡ w.scope.names ++ more_names
   pub locals : (n : List ℕ) (e : Entry) → found more_names n ≡ Some e → IsLocal e.meaning
@@ -135,6 +136,7 @@ grows_all h w = record {
   more_structs = [];
   structs = sym (append-nil w.scope.structs);
   bodiless = λ k row e. get_none (λ (row : StructRow). row.body ≡ None) k row e;
+  tags = λ n k is. is;
   more_names = [];
   names = sym (append-nil w.scope.names);
   locals = λ n e is. found_none (λ (e : Entry). IsLocal e.meaning) n e is;
@@ -153,6 +155,7 @@ grows_both h w u v f g = record {
   more_structs = f.more_structs ++ g.more_structs;
   structs = g.structs ∙ ap (λ (xs : List StructRow). xs ++ g.more_structs) f.structs ∙ append_assoc w.scope.structs f.more_structs g.more_structs;
   bodiless = λ k row e. get_either (λ (row : StructRow). row.body ≡ None) f.more_structs g.more_structs f.bodiless g.bodiless k row e;
+  tags = λ n k is. g.tags n k (f.tags n k is);
   more_names = f.more_names ++ g.more_names;
   names = g.names ∙ ap (λ (xs : List (List ℕ × Entry)). xs ++ g.more_names) f.names ∙ append_assoc w.scope.names f.more_names g.more_names;
   locals = λ n. found_either (λ (e : Entry). IsLocal e.meaning) f.more_names g.more_names n (f.locals n) (g.locals n);
@@ -192,6 +195,7 @@ closes h w u g = record {
   more_structs = g.more_structs;
   structs = g.structs;
   bodiless = g.bodiless;
+  tags = g.tags;
   more_names = [];
   names = left_names w u g.more_names g.names ∙ sym (append-nil w.scope.names);
   locals = λ n e is. found_none (λ (e : Entry). IsLocal e.meaning) n e is;
@@ -267,3 +271,22 @@ closed_onward w u more names locals = record {
 
 pub closes_onward : (h : Home) (w u : Walk) → Grows h w u → Onward u (closed (length w.scope.names) u)
 closes_onward h w u g = closed_onward w u g.more_names g.names g.locals
+
+-- remembering
+
+-- what a name or a tag stands for at one place it stands for at a later one
+pub record Remembers (w u : Walk) : Type 0 where
+  pub names : (n : List ℕ) (e : Entry) → found w.scope.names n ≡ Some e → found u.scope.names n ≡ Some e
+  pub tags : (n : List ℕ) (k : ℕ) → found w.scope.tags n ≡ Some k → found u.scope.tags n ≡ Some k
+
+pub remembers_all : (w : Walk) → Remembers w w
+remembers_all w = record { names = λ n e is. is; tags = λ n k is. is }
+
+pub remembers_both : (w u v : Walk) → Remembers w u → Remembers u v → Remembers w v
+remembers_both w u v f g = record { names = λ n e is. g.names n e (f.names n e is); tags = λ n k is. g.tags n k (f.tags n k is) }
+
+pub grows_remember : (h : Home) (w u : Walk) → Grows h w u → Remembers w u
+grows_remember h w u g = record {
+  names = λ n e is. ap (λ (xs : List (List ℕ × Entry)). found xs n) g.names ∙ found_first w.scope.names g.more_names n e is;
+  tags = g.tags;
+}
