@@ -31,7 +31,7 @@ use Rattle.c_types.specs.Offsets.{block_stands, bodies_of, is_behind_all, Stands
 use Rattle.c_types.specs.Program.{start, walked, definitions, field_def, struct_def, made_program, IsProgram}
 use Rattle.c_types.specs.Scopes.{text_or_none, type_faults}
 use Rattle.c_types.proofs.Bodies.{AreAmong, params_none, bodies_so_far, stands_from}
-use Rattle.c_types.proofs.Functionwise.{Before, by_definitions, callee_called}
+use Rattle.c_types.proofs.Functionwise.{Before, by_definitions, callee_called, inside_onward}
 use Rattle.c_types.proofs.Numbering.{first_empty}
 use Rattle.c_types.proofs.NumberingCalls.{second_empty}
 use Rattle.c_types.proofs.Passing.{note_passes, named_passes, head_types, types_grow, types_of, types_good, no_home, heading_passes, returned_there, slot_passes, fun_passes, headed, with_params, inside, left, slotted, made_of, finished, params_grow, left_passes, headed_inside, headed_left, tops_pass, start_stands}
@@ -126,22 +126,6 @@ result_good returned.Nothing h = tt
 result_good (returned.Value t) h = tt
 result_good (returned.Bad f) h = absurd cc
 
--- from the end of a body to the end of its function
-inside_onward : (h : Head) (body : Block) (w : Walk) → Standing w → Onward (inside h body w).0 (walked_fun h body w)
-inside_onward h body w s =
-    let t = (headed h body w).1 in
-    let a = heading_passes h true w s in
-    let i = headed_inside h body w a.standing in
-    let l = left_passes h body w i.standing in
-    let more : length (headed h body w).0.scope.structs ≤ length (left h body w).scope.structs = (headed_left h body w a.standing).onward.structs in
-    let has = result_more (length (headed h body w).0.scope.structs) (length (left h body w).scope.structs) more (result_or_none t) (returned_there h true w s) in
-    let c = slot_passes t (length w.funs) (brace_of body) (left h body w) has l.standing in
-    let grown : length (left h body w).scope.structs ≤ length (slotted h body w).scope.structs = c.onward.structs in
-    let d = note_passes (no_value t (is_main (text_or_none h.result.name)) (flow_of (inside h body w).1) (brace_of body)) (slotted h body w) c.standing in
-    let e = fun_passes (made_of h body w) (finished h body w) (result_more (length (left h body w).scope.structs) (length (slotted h body w).scope.structs) grown (result_or_none t) has) d.standing in
-    onward_both (inside h body w).0 (left h body w) (walked_fun h body w) l.onward
-    (onward_both (left h body w) (slotted h body w) (walked_fun h body w) c.onward (onward_both (slotted h body w) (finished h body w) (walked_fun h body w) d.onward e.onward))
-
 module _ (t : Tree) (p : Program) (is : IsProgram t p) (fits : FitsText t) where
   abbrev d : Declarations
   d = declarations p
@@ -179,18 +163,18 @@ module _ (t : Tree) (p : Program) (is : IsProgram t p) (fits : FitsText t) where
 
     ready : Ready behind (with_params h body w).0
     ready = record {
-      standing = (params_grow h body w).stands (heading_passes h true w before.standing).standing;
+      standing = (params_grow h body w).stands (heading_passes h true w before.sofar.standing).standing;
       bodies = λ n row at k is b. among n row at k (params_none h body w n row at is b) b;
     }
 
     onward : Onward (inside h body w).0 (walked t)
-    onward = onward_both (inside h body w).0 (walked_fun h body w) (walked t) (inside_onward h body w before.standing) before.rest
+    onward = onward_both (inside h body w).0 (walked_fun h body w) (walked t) (inside_onward h body w before.sofar.standing) before.rest
 
     good : IsGood (headed h body w).1
     good =
-        let a = heading_passes h true w before.standing in
+        let a = heading_passes h true w before.sofar.standing in
         let clean : (headed h body w).0.faults ≡ [] = (headed_inside h body w a.standing).onward.clean (onward.clean is.clean) in
-        let types = (named_passes h true (types_of h w) h.result.name (head_types h w) (types_good h w) ((types_grow no_home h w).stands before.standing)).onward.clean clean in
+        let types = (named_passes h true (types_of h w) h.result.name (head_types h w) (types_good h w) ((types_grow no_home h w).stands before.sofar.standing)).onward.clean clean in
         result_good (headed h body w).1 (first_empty (result_faults (headed h body w).1) _ (second_empty w.faults _ types))
 
     -- a claim that follows from right types holds of the body
