@@ -1,10 +1,9 @@
 -- Where the bodies of structs stand that have come on the way through a file.
-use Rattle.std.proofs.Common.{◌≡◌, ℕ, zero, suc, ◌+◌, ◌==◌, Bool, true, false, ◌&&◌, List, [], ◌∷◌, ◌++◌, length, map, flat_map, Option, Some, None, refl, sym, ap, subst, ◌∙◌, append-nil, append_assoc}
-use Rattle.std.specs.Prelude.{slice_get, slice_set, nat_lt, if◌then◌else◌, IsTrue}
-use Rattle.std.specs.List.{fold, list_all}
+use Rattle.std.proofs.Common.{◌≡◌, ℕ, zero, suc, Bool, true, false, List, [], ◌∷◌, ◌++◌, length, flat_map, Option, Some, None, refl, sym, ap, subst, ◌∙◌, append-nil, append_assoc}
+use Rattle.std.specs.Prelude.{slice_get, slice_set, nat_lt, if◌then◌else◌}
+use Rattle.std.specs.List.{fold}
 use Rattle.std.proofs.lemmas.Bool.{and_parts}
 use Rattle.std.proofs.lemmas.List.Folds.{list_all-append}
-use Rattle.c_tree.specs.declared.program.FunDef.{FunDef}
 use Rattle.c_tree.specs.declared.program.Home.{Home}
 use Rattle.c_tree.specs.declared.program.Home.TheVariants as home
 use Rattle.c_tree.specs.declared.tree.Block.{Block}
@@ -12,7 +11,6 @@ use Rattle.c_tree.specs.declared.tree.Body.{Body}
 use Rattle.c_tree.specs.declared.tree.Expr.{Expr}
 use Rattle.c_tree.specs.declared.tree.GlobalDecl.{GlobalDecl}
 use Rattle.c_tree.specs.declared.tree.Head.{Head}
-use Rattle.c_tree.specs.declared.tree.Spec.{Spec}
 use Rattle.c_tree.specs.declared.tree.Top.{Top}
 use Rattle.c_tree.specs.declared.tree.Top.TheVariants as top
 use Rattle.c_tree.specs.declared.tree.Word.{Word}
@@ -28,16 +26,16 @@ use Rattle.c_types.specs.declared.scope.Signature.{Signature}
 use Rattle.c_types.specs.declared.scope.StructRow.{StructRow}
 use Rattle.c_types.specs.declared.scope.Walk.{Walk}
 use Rattle.c_types.specs.declared.scope.Written.{Written}
-use Rattle.c_types.specs.Functions.{noted_again, marked, with_body, new_function, function_as, function_by, main_faults, function_named, walked_heading, with_slot, brace_of, walked_fun, walked_proto}
-use Rattle.c_types.specs.Offsets.{bodies_of, is_behind_all, StandsFrom, top_stands}
+use Rattle.c_types.specs.Functions.{noted_again, marked, with_body, function_as, function_by, main_faults, function_named, walked_heading, with_slot, brace_of, walked_fun, walked_proto}
+use Rattle.c_types.specs.Offsets.{bodies_of, is_behind_all, StandsFrom}
 use Rattle.c_types.specs.Program.{start, walked_top, walked_from}
 use Rattle.c_types.specs.Scopes.{noted, with_scope, named_by, declared}
-use Rattle.c_types.specs.Structs.{Fields, with_row, row_again, walked_fields, walked_body, body_if, alias_if, numbered, walked_struct, start_number, start_noted, walked_global}
+use Rattle.c_types.specs.Structs.{with_row, row_again, walked_fields, body_if, alias_if, numbered, walked_struct, start_number, start_noted, walked_global}
 use Rattle.c_types.specs.Tables.{found}
 use Rattle.c_types.proofs.Growing.{declared_grows}
-use Rattle.c_types.proofs.Passing.{no_home, types_of, head_types, types_grow, numbered_grows, fields_grow, headed, with_params, inside, left, slotted, params_grow, inside_grows}
+use Rattle.c_types.proofs.Passing.{no_home, types_of, head_types, types_grow, numbered_grows, fields_grow, headed, with_params, inside, left, params_grow, inside_grows}
 use Rattle.c_types.proofs.Standing.{Grows}
-use Rattle.c_types.proofs.TypedParts.{with_body as row_with_body}
+use Rattle.c_types.proofs.TypedCalls.{row_before}
 
 -- structs with a body were there before
 abbrev pub NoBodies : List StructRow → List StructRow → Type 0
@@ -51,7 +49,7 @@ no_both xs ys zs f g n row body is b = f n row body (g n row body is b) b
 
 pub grows_none : (h : Home) (w u : Walk) → Grows h w u → NoBodies w.scope.structs u.scope.structs
 grows_none h w u g n row body is b =
-    row_with_body w.scope.structs g.more_structs g.bodiless n row body (subst (λ (rows : List StructRow). slice_get rows n ≡ Some row) g.structs is) b
+    row_before w.scope.structs g.more_structs g.bodiless n row body (subst (λ (rows : List StructRow). slice_get rows n ≡ Some row) g.structs is) b
 
 -- functions
 
@@ -174,7 +172,7 @@ body_among bodies tag k (Some b) w are =
     let u = noted (row_again (slice_get w.scope.structs k) tag) w in
     let r = walked_fields b.fields u in
     let here : AreAmong bodies r.0.scope.structs =
-        subst (λ (bs : List ℕ). AreAmong bs r.0.scope.structs) (append-nil bodies) (among_more bodies [] u.scope.structs r.0.scope.structs (grows_none no_home u r.0 (fields_grow no_home b.fields (u, []))) are) in
+    subst (λ (bs : List ℕ). AreAmong bs r.0.scope.structs) (append-nil bodies) (among_more bodies [] u.scope.structs r.0.scope.structs (grows_none no_home u r.0 (fields_grow no_home b.fields (u, []))) are) in
     row_among bodies k (record { fields = r.1; body = Some b.at }) b.at r.0 refl here
 
 older_structs : (n : Word) (e : Entry) (w : Walk) (o : Option Entry) → (named_by n e w o).scope.structs ≡ w.scope.structs
@@ -195,7 +193,7 @@ struct_among bodies tag o alias w are =
     let r = numbered tag w.scope in
     let v = with_scope w r.0 in
     let first : AreAmong bodies v.scope.structs =
-        subst (λ (bs : List ℕ). AreAmong bs v.scope.structs) (append-nil bodies) (among_more bodies [] w.scope.structs v.scope.structs (grows_none no_home w v (numbered_grows no_home tag w)) are) in
+    subst (λ (bs : List ℕ). AreAmong bs v.scope.structs) (append-nil bodies) (among_more bodies [] w.scope.structs v.scope.structs (grows_none no_home w v (numbered_grows no_home tag w)) are) in
     let u = body_if tag r.1 o v in
     let second : AreAmong (bodies ++ body_at o) u.scope.structs = body_among bodies tag r.1 o v first in
     subst (λ (bs : List ℕ). AreAmong (bodies ++ bs) (walked_struct tag o alias w).scope.structs) (sym (bodies_in tag o alias))

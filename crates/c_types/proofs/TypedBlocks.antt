@@ -1,6 +1,6 @@
 -- What the walk makes of a block at a place of a text without faults, by induction over the block: each part of it has right
 -- types in the text's program, for any fold that only asks for that.
-use Rattle.std.proofs.Common.{◌≡◌, ℕ, ◌+◌, Bool, true, false, ◌&&◌, List, [], ◌∷◌, ◌++◌, length, map, Option, Some, None, option_map, refl, sym, ap, subst, ◌∙◌}
+use Rattle.std.proofs.Common.{◌≡◌, ℕ, Bool, true, ◌&&◌, List, [], ◌∷◌, length, map, Option, Some, None, refl, sym, ap, subst, ◌∙◌}
 use Rattle.std.specs.Prelude.{slice_get}
 use Rattle.std.specs.List.{list_all}
 use Rattle.std.proofs.lemmas.Bool.{and_parts}
@@ -49,12 +49,12 @@ use Rattle.c_types.specs.Fits.{unless}
 use Rattle.c_types.specs.Functions.{result_or_none}
 use Rattle.c_types.specs.InTurn.{each, optional}
 use Rattle.c_types.specs.Offsets.{expr_stands, call_stands, right_stands, declr_stands, simple_stands, start_stands, head_stands, gap_stands, item_stands, arm_stands, layers_stand, piece_stands, block_stands}
-use Rattle.c_types.specs.Scopes.{closed, noted}
+use Rattle.c_types.specs.Scopes.{closed}
 use Rattle.c_types.specs.Statements.{walked_simple, walked_declr, bare_return, walked_return, call_item, walked_do}
 use Rattle.c_types.proofs.Growing.{note_grows, call_grows, simple_grows, declr_grows, do_grows, return_grows, gap_grows, test_grows}
 use Rattle.c_types.proofs.NumberingCalls.{second_empty}
 use Rattle.c_types.proofs.Standing.{Grows, grows_all, grows_both, closes, Onward, onward_both, grows_onward, closes_onward}
-use Rattle.c_types.proofs.TypedCalls.{IsCalled, AllCall, call_right}
+use Rattle.c_types.proofs.TypedCalls.{IsCallee, AllCall, call_right}
 use Rattle.c_types.proofs.TypedParts.{Sees, Ready, ready_on, stands_at, noted_on, gap_right, test_right, assignment_right, declarator_right, returning_right}
 use Rattle.c_types.proofs.TypedStatements.{IsGood, bare_right}
 
@@ -108,7 +108,7 @@ module _ (behind : ℕ → Bool) (final : Walk) (t : Returned) where
     pub goal : returns ≡ t → Ready behind w → Onward u final → Goal
 
 module _ {X : Type 0} (c : Claim X) (behind : ℕ → Bool) (final : Walk) (clean : final.faults ≡ []) (d e : Declarations) (sees : Sees d behind final) (sees_frees : Sees e behind final)
-    (callees : (w : Walk) → Onward w final → (n : Word) (f k : ℕ) (g : Signature) → callee_of w n ≡ callee.Defined f k → slice_get w.signatures k ≡ Some g → IsCalled d f g)
+    (callees : (w : Walk) → Onward w final → (n : Word) (f k : ℕ) (g : Signature) → callee_of w n ≡ callee.Defined f k → slice_get w.signatures k ≡ Some g → IsCallee d f g)
     (t : Returned) (good : IsGood t) (follows : Follows c d e t) where
   abbrev K : Nesting → Walk → Walk → Type 0 → Type 0
   K p = Keeps behind final t p.function p.returns

@@ -1,26 +1,21 @@
 -- The smallest parts of a block, walked at a place of a text without faults, have right types in the text's program.
-use Rattle.std.proofs.Common.{◌≡◌, ℕ, zero, suc, ◌+◌, Bool, true, false, ◌&&◌, ◌||◌, List, [], ◌∷◌, ◌++◌, length, map, Option, Some, None, option_map, refl, sym, ap, subst, ◌∙◌}
+use Rattle.std.proofs.Common.{◌≡◌, ℕ, zero, suc, Bool, true, false, ◌&&◌, ◌||◌, List, [], ◌∷◌, ◌++◌, length, map, Option, Some, None, option_map, refl, sym, ap, subst, ◌∙◌}
 use Rattle.std.specs.Prelude.{slice_get, nat_lt, if◌then◌else◌}
 use Rattle.std.specs.List.{list_all}
 use Rattle.std.proofs.lemmas.Bool.{and_parts}
-use Rattle.c_tree.specs.Typing.{Declarations, has, if_any, var_type, fields_of, points as made_points, Sort as MadeSort, AnyPointer as MadeAny, sort_of, is_condition, call_fits, value_fits, declr_fits, simple_fits, start_fits, head_fits, return_fits, free_fits, gap_fits}
-use Rattle.c_tree.specs.declared.expr.Expr.{Expr as Made}
+use Rattle.c_tree.specs.Typing.{Declarations, has, if_any, var_type, fields_of, points as made_points, AnyPointer as MadeAny, sort_of, is_condition, value_fits, declr_fits, simple_fits, return_fits, free_fits, gap_fits}
 use Rattle.c_tree.specs.declared.program.Home.{Home}
 use Rattle.c_tree.specs.declared.program.Home.TheVariants as home
 use Rattle.c_tree.specs.declared.program.Ty.{Ty}
 use Rattle.c_tree.specs.declared.program.Ty.TheVariants as ty
 use Rattle.c_tree.specs.declared.program.VarDef.{VarDef}
-use Rattle.c_tree.specs.declared.tree.Call.{Call}
 use Rattle.c_tree.specs.declared.tree.Declr.{Declr}
 use Rattle.c_tree.specs.declared.tree.Expr.{Expr}
-use Rattle.c_tree.specs.declared.tree.ForHead.{ForHead}
 use Rattle.c_tree.specs.declared.tree.Free.{Free}
 use Rattle.c_tree.specs.declared.tree.Gap.{Gap}
 use Rattle.c_tree.specs.declared.tree.Right.{Right}
 use Rattle.c_tree.specs.declared.tree.Simple.{Simple}
 use Rattle.c_tree.specs.declared.tree.Spec.{Spec}
-use Rattle.c_tree.specs.declared.tree.Start.{Start}
-use Rattle.c_tree.specs.declared.tree.Start.TheVariants as start
 use Rattle.c_tree.specs.declared.tree.Word.{Word}
 use Rattle.c_types.specs.declared.faults.Fault.{Fault}
 use Rattle.c_types.specs.declared.faults.Rule.TheVariants as rule
@@ -32,7 +27,6 @@ use Rattle.c_types.specs.declared.judged.Sort.TheVariants.{Of, AnyPointer}
 use Rattle.c_types.specs.declared.judged.Value.{Value}
 use Rattle.c_types.specs.declared.scope.Entry.{Entry}
 use Rattle.c_types.specs.declared.scope.Meaning.{Meaning}
-use Rattle.c_types.specs.declared.scope.Meaning.TheVariants as meaning
 use Rattle.c_types.specs.declared.scope.Nesting.{Nesting}
 use Rattle.c_types.specs.declared.scope.Returned.{Returned}
 use Rattle.c_types.specs.declared.scope.Signature.{Signature}
@@ -40,26 +34,27 @@ use Rattle.c_types.specs.declared.scope.StructRow.{StructRow}
 use Rattle.c_types.specs.declared.scope.Walk.{Walk}
 use Rattle.c_types.specs.declared.scope.Written.{Written}
 use Rattle.c_types.specs.declared.scope.Written.TheVariants.{Good, Bad}
-use Rattle.c_types.specs.Blocks.{freed, free_of, walked_free, next_gap, walked_gap, test_of, walked_test, walked_start, walked_head}
-use Rattle.c_types.specs.Calls.{callee_of, walked_call}
+use Rattle.c_types.specs.Blocks.{freed, free_of, walked_free, next_gap, walked_gap, walked_test}
+use Rattle.c_types.specs.Calls.{callee_of}
 use Rattle.c_types.specs.Expressions.{judged}
-use Rattle.c_types.specs.Fits.{unless, points, is_zero, as_pointer}
+use Rattle.c_types.specs.Fits.{points, is_zero}
 use Rattle.c_types.specs.Functions.{result_or_none}
-use Rattle.c_types.specs.InTurn.{each, optional}
+use Rattle.c_types.specs.InTurn.{each}
 use Rattle.c_types.specs.Judged.{faults_of, or_null}
-use Rattle.c_types.specs.Offsets.{expr_stands, right_stands, declr_stands, simple_stands, start_stands, head_stands, free_stands, gap_stands}
+use Rattle.c_types.specs.Offsets.{expr_stands, right_stands, declr_stands, simple_stands, free_stands, gap_stands}
 use Rattle.c_types.specs.Program.{field_def}
-use Rattle.c_types.specs.Scopes.{noted, with_name, named_by, named_if, or_int, variable_meaning, var_of, with_var, with_scope, declared, spec_type, type_faults, closed}
-use Rattle.c_types.specs.Statements.{walked_right, assigned, walked_simple, walked_initial, initial, walked_declr, returned_value, bare_return}
+use Rattle.c_types.specs.Scopes.{noted, named_by, named_if, or_int, variable_meaning, var_of, with_var, with_scope, declared, spec_type, type_faults, closed}
+use Rattle.c_types.specs.Statements.{walked_right, assigned, walked_simple, walked_initial, initial, walked_declr, returned_value}
 use Rattle.c_types.specs.Tables.{found}
-use Rattle.c_types.proofs.Growing.{note_grows, declared_grows, right_grows, simple_grows, initial_grows, declr_grows, gap_grows, test_grows}
+use Rattle.c_types.proofs.Functionwise.{clean_unless}
+use Rattle.c_types.proofs.Growing.{note_grows, declared_grows, right_grows, simple_grows, initial_grows, gap_grows, test_grows}
 use Rattle.c_types.proofs.Numbering.{first_empty}
 use Rattle.c_types.proofs.NumberingCalls.{second_empty}
 use Rattle.c_types.proofs.Rows.{get_last}
-use Rattle.c_types.proofs.Standing.{type_in, type_more, Means, Standing, Grows, grows_all, grows_both, closes, Onward, onward_both, grows_onward, closes_onward}
-use Rattle.c_types.proofs.TypedExpressions.{made_sort, Stands, IsRight, AllRight, pointer_sort, expr_right}
-use Rattle.c_types.proofs.TypedCalls.{kept, IsCalled}
-use Rattle.c_types.proofs.TypedStatements.{AllValue, right_right, initial_right, IsGood, returned_right, bare_right, simple_right}
+use Rattle.c_types.proofs.Standing.{type_in, type_more, Means, Standing, Grows, Onward, onward_both, grows_onward}
+use Rattle.c_types.proofs.TypedExpressions.{made_sort, Stands, AllRight, pointer_sort, expr_right}
+use Rattle.c_types.proofs.TypedCalls.{IsCallee, row_before}
+use Rattle.c_types.proofs.TypedStatements.{AllValue, right_right, initial_right, IsGood, returned_right, simple_right}
 
 -- a program's declarations are those at the end of the text; a body that has come is known at the offsets that are behind it
 pub record Sees (d : Declarations) (behind : ℕ → Bool) (final : Walk) : Type 0 where
@@ -71,13 +66,6 @@ pub record Sees (d : Declarations) (behind : ℕ → Bool) (final : Walk) : Type
 pub record Ready (behind : ℕ → Bool) (w : Walk) : Type 0 where
   pub standing : Standing w
   pub bodies : (n : ℕ) (row : StructRow) (body at : ℕ) → slice_get w.scope.structs n ≡ Some row → row.body ≡ Some body → behind at ≡ true → nat_lt body at ≡ true
-
--- a struct with a body is none of those that come behind, which have none
-pub with_body : (rows more : List StructRow) → ((k : ℕ) (row : StructRow) → slice_get more k ≡ Some row → row.body ≡ None)
-    → (n : ℕ) (row : StructRow) (body : ℕ) → slice_get (rows ++ more) n ≡ Some row → row.body ≡ Some body → slice_get rows n ≡ Some row
-with_body [] more bare n row body is b = let no : None ≡ Some body = sym (bare n row is) ∙ b in absurd cc
-with_body (x ∷ rows) more bare zero row body is b = is
-with_body (x ∷ rows) more bare (suc n) row body is b = with_body rows more bare n row body is b
 
 -- names that are declared
 
@@ -115,7 +103,7 @@ module _ (behind : ℕ → Bool) where
   ready_on h w u g r = record {
     standing = g.stands r.standing;
     bodies = λ n row body at is b after.
-        r.bodies n row body at (with_body w.scope.structs g.more_structs g.bodiless n row body (subst (λ (rows : List StructRow). slice_get rows n ≡ Some row) g.structs is) b) b after;
+        r.bodies n row body at (row_before w.scope.structs g.more_structs g.bodiless n row body (subst (λ (rows : List StructRow). slice_get rows n ≡ Some row) g.structs is) b) b after;
   }
 
   pub ready_closed : (w u : Walk) → Standing (closed (length w.scope.names) u) → Ready behind u → Ready behind (closed (length w.scope.names) u)
@@ -144,7 +132,7 @@ module _ (behind : ℕ → Bool) (final : Walk) (clean : final.faults ≡ []) wh
   freed_right : (e : Declarations) (at : ℕ) (j : Judged Value) → AllRight e false j → (freed at j).faults ≡ [] → has made_points (sort_of e (freed at j).made) ≡ true
   freed_right e at (Broken fs) h none = absurd (h none)
   freed_right e at (Typed v) h none =
-      ap (has made_points) (pointer_sort e v.expr v.sort h) ∙ by_sort (is_zero v.expr) v.sort (kept (points v.sort || is_zero v.expr) rule.Operands at none)
+      ap (has made_points) (pointer_sort e v.expr v.sort h) ∙ by_sort (is_zero v.expr) v.sort (clean_unless (points v.sort || is_zero v.expr) rule.Operands at none)
     where
       by_sort : (z : Bool) (g : Sort) → (points g || z) ≡ true → made_points (if z then MadeAny else made_sort g) ≡ true
       by_sort true g h = refl
@@ -171,7 +159,7 @@ module _ (behind : ℕ → Bool) (final : Walk) (clean : final.faults ≡ []) wh
       frees_right e g.frees (next_gap w).0 (stands_at e sees w ready before) h (on.clean clean)
 
   module _ (d : Declarations) (sees : Sees d behind final)
-      (callees : (w : Walk) → Onward w final → (n : Word) (f k : ℕ) (g : Signature) → callee_of w n ≡ callee.Defined f k → slice_get w.signatures k ≡ Some g → IsCalled d f g) where
+      (callees : (w : Walk) → Onward w final → (n : Word) (f k : ℕ) (g : Signature) → callee_of w n ≡ callee.Defined f k → slice_get w.signatures k ≡ Some g → IsCallee d f g) where
     -- conditions
 
     test_by : (j : Judged Value) → AllRight d true j → faults_of j ≡ [] → is_condition d (or_null j) ≡ true
@@ -220,9 +208,9 @@ module _ (behind : ℕ → Bool) (final : Walk) (clean : final.faults ≡ []) wh
         let x = var_of c.spec v.1 place in
         let known : type_in (w.vars ++ x ∷ []) (length w.vars) ≡ Some x.ty = ap (option_map (λ (y : VarDef). y.ty)) (get_last w.vars x) in
         let type : var_type d (length w.vars) ≡ Some (or_int v.1) =
-            sees.vars (length w.vars)
-            ∙ ap (λ (vs : List VarDef). type_in vs (length w.vars)) (here.vars ∙ ap (λ (vs : List VarDef). vs ++ here.more_vars) (declared_vars c.spec place p.depth w))
-            ∙ type_more (w.vars ++ x ∷ []) here.more_vars (length w.vars) x.ty known
+        sees.vars (length w.vars)
+        ∙ ap (λ (vs : List VarDef). type_in vs (length w.vars)) (here.vars ∙ ap (λ (vs : List VarDef). vs ++ here.more_vars) (declared_vars c.spec place p.depth w))
+        ∙ type_more (w.vars ++ x ∷ []) here.more_vars (length w.vars) x.ty known
         in
         by_written v.1 (declared_good c.spec place p.depth w (here.clean clean)) type on
       where

@@ -1,21 +1,19 @@
 -- All expressions, calls and statements of a text's program have right types, and all its frees take pointers.
-use Rattle.std.proofs.Common.{◌≡◌, ℕ, ◌+◌, ◌≤◌, Bool, true, false, ◌&&◌, List, [], ◌∷◌, ◌++◌, length, map, flat_map, Option, Some, None, option_map, refl, sym, ap, subst, ◌∙◌}
-use Rattle.std.specs.Prelude.{slice_get, if◌then◌else◌, IsTrue}
+use Rattle.std.proofs.Common.{◌≡◌, ℕ, ◌+◌, Bool, true, ◌&&◌, List, [], ◌∷◌, ◌++◌, length, map, flat_map, Option, Some, option_map, refl, sym, ap, subst, ◌∙◌}
+use Rattle.std.specs.Prelude.{slice_get, IsTrue}
 use Rattle.std.specs.List.{list_all}
 use Rattle.std.specs.Option.{is_some, option_and_then}
 use Rattle.std.proofs.lemmas.Bool.{and_parts}
 use Rattle.std.proofs.lemmas.List.Folds.{list_all-append}
 use Rattle.std.proofs.lemmas.Option.{slice_get-map}
-use Rattle.c_tree.specs.Flow.{flow_of}
-use Rattle.c_tree.specs.Numbers.{from_all, from_last, Gaps, item_gaps, arm_gaps, block_gaps, piece_gaps, gaps_in, gaps_of}
-use Rattle.c_tree.specs.Typing.{Declarations, declarations, anywhere, if_any, fields_if, fields_of, item_fits, arm_fits, all_items, its_item, block_fits, gap_fits, prototype}
+use Rattle.c_tree.specs.Numbers.{from_all, Gaps, item_gaps, arm_gaps, block_gaps, piece_gaps, gaps_in}
+use Rattle.c_tree.specs.Typing.{Declarations, declarations, anywhere, fields_if, item_fits, arm_fits, all_items, its_item, block_fits, gap_fits, prototype}
 use Rattle.c_tree.specs.WellFormed.{each_from, each_function, FreesFit}
 use Rattle.c_tree.specs.declared.program.FunDef.{FunDef}
 use Rattle.c_tree.specs.declared.program.Program.{Program}
 use Rattle.c_tree.specs.declared.program.StructDef.{StructDef}
 use Rattle.c_tree.specs.declared.tree.Block.{Block}
 use Rattle.c_tree.specs.declared.tree.Head.{Head}
-use Rattle.c_tree.specs.declared.tree.Top.{Top}
 use Rattle.c_tree.specs.declared.tree.Top.TheVariants as top
 use Rattle.c_tree.specs.declared.tree.Tree.{Tree}
 use Rattle.c_tree.specs.declared.tree.Word.{Word}
@@ -25,19 +23,18 @@ use Rattle.c_types.specs.declared.scope.Returned.TheVariants as returned
 use Rattle.c_types.specs.declared.scope.Signature.{Signature}
 use Rattle.c_types.specs.declared.scope.StructRow.{StructRow}
 use Rattle.c_types.specs.declared.scope.Walk.{Walk}
-use Rattle.c_types.specs.Calls.{is_main, callee_of}
-use Rattle.c_types.specs.Functions.{result_faults, walked_heading, body_nesting, no_value, result_or_none, brace_of, walked_fun}
+use Rattle.c_types.specs.Calls.{callee_of}
+use Rattle.c_types.specs.Functions.{result_faults, body_nesting, result_or_none, walked_fun}
 use Rattle.c_types.specs.Offsets.{block_stands, bodies_of, is_behind_all, StandsFrom, FitsText}
 use Rattle.c_types.specs.Program.{start, walked, definitions, field_def, struct_def, made_program, IsProgram}
-use Rattle.c_types.specs.Scopes.{text_or_none, type_faults}
 use Rattle.c_types.proofs.Bodies.{AreAmong, params_none, bodies_so_far, stands_from}
 use Rattle.c_types.proofs.Functionwise.{Before, by_definitions, callee_called, inside_onward}
 use Rattle.c_types.proofs.Numbering.{first_empty}
 use Rattle.c_types.proofs.NumberingCalls.{second_empty}
-use Rattle.c_types.proofs.Passing.{note_passes, named_passes, head_types, types_grow, types_of, types_good, no_home, heading_passes, returned_there, slot_passes, fun_passes, headed, with_params, inside, left, slotted, made_of, finished, params_grow, left_passes, headed_inside, headed_left, tops_pass, start_stands}
-use Rattle.c_types.proofs.Standing.{result_more, Standing, Onward, onward_both}
+use Rattle.c_types.proofs.Passing.{named_passes, head_types, types_grow, types_of, types_good, no_home, heading_passes, headed, with_params, inside, params_grow, headed_inside, tops_pass, start_stands}
+use Rattle.c_types.proofs.Standing.{Onward, onward_both}
 use Rattle.c_types.proofs.TypedBlocks.{Claim, of_block, AllGood, Follows, block_good}
-use Rattle.c_types.proofs.TypedCalls.{IsCalled}
+use Rattle.c_types.proofs.TypedCalls.{IsCallee}
 use Rattle.c_types.proofs.TypedParts.{Sees, Ready}
 use Rattle.c_types.proofs.TypedStatements.{IsGood}
 
@@ -133,7 +130,7 @@ module _ (t : Tree) (p : Program) (is : IsProgram t p) (fits : FitsText t) where
   same_definitions : (walked t).definitions ≡ definitions t.tops
   same_definitions = (tops_pass t.tops (start (definitions t.tops)) (start_stands (definitions t.tops))).onward.definitions
 
-  callees : (w : Walk) → Onward w (walked t) → (n : Word) (f k : ℕ) (g : Signature) → callee_of w n ≡ callee.Defined f k → slice_get w.signatures k ≡ Some g → IsCalled d f g
+  callees : (w : Walk) → Onward w (walked t) → (n : Word) (f k : ℕ) (g : Signature) → callee_of w n ≡ callee.Defined f k → slice_get w.signatures k ≡ Some g → IsCallee d f g
   callees w on n f k g c s =
       let called = callee_called t p is w (sym on.definitions ∙ same_definitions) on n f k g c s in
       record {
