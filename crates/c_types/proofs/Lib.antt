@@ -20,6 +20,7 @@ pub mod NumberingLeaves
 pub mod NumberingTops
 pub mod Passing
 mod Peeled
+pub mod ProgramVariables
 pub mod Rows
 pub mod Standing
 pub mod TableLemmas
