@@ -60,6 +60,11 @@ module _ {X : Type 0} (d : Reading X) where
   abbrev pub of_piece : MadePiece → X
   of_piece = fold-MadePiece X X X X d.item d.arm d.block d.piece
 
+  -- an item, one level opened
+  pub opened : (x : MadeItem-F MadeItem MadeArm MadeBlock MadePiece) (i : MadeItem) → roll-MadeItem x ≡ i
+      → of_item i ≡ d.item (map-MadeItem MadeItem MadeArm MadeBlock MadePiece X X X X of_item of_arm of_block of_piece x)
+  opened x i is = ap of_item (sym is) ∙ fold-roll-MadeItem X X X X d.item d.arm d.block d.piece x
+
   -- what the constructors owe
   pub record Law : Type 0 where
     pub declares : (p : Nesting) (ds : List Declr) (w : Walk) → let r = each (walked_declr p) ds w in d.OfItem p w r.0 (d.item (made.Declare r.1))
@@ -81,11 +86,6 @@ module _ {X : Type 0} (d : Reading X) where
         d.OfItem p l.0 u x → d.OfPiece p w u (d.piece (record { gap = l.1; item = x; start = from; end = to }))
 
 module _ {X : Type 0} (d : Reading X) (law : Law d) where
-  -- an item, one level opened
-  opened : (x : MadeItem-F MadeItem MadeArm MadeBlock MadePiece) (i : MadeItem) → roll-MadeItem x ≡ i
-      → of_item d i ≡ d.item (map-MadeItem MadeItem MadeArm MadeBlock MadePiece X X X X (of_item d) (of_arm d) (of_block d) (of_piece d) x)
-  opened x i is = ap (of_item d) (sym is) ∙ fold-roll-MadeItem X X X X d.item d.arm d.block d.piece x
-
   abbrev ItemHolds : Item → Type 0
   ItemHolds i = (at : ℕ) (p : Nesting) (w : Walk) → let r = walked_item i at p w in d.OfItem p w r.0 (of_item d r.1)
 
@@ -122,36 +122,36 @@ module _ {X : Type 0} (d : Reading X) (law : Law d) where
   layer_holds : (y : Held) → ItemWalkHolds (item_walk (walks_item (bare_item y)))
   layer_holds (Declare ds) at p w =
       let r = each (walked_declr p) ds w in
-      subst (d.OfItem p w r.0) (sym (opened (made.Declare r.1) (item.Declare r.1) (item.rolls-Declare r.1))) (law.declares p ds w)
+      subst (d.OfItem p w r.0) (sym (opened d (made.Declare r.1) (item.Declare r.1) (item.rolls-Declare r.1))) (law.declares p ds w)
   layer_holds (Assign s) at p w =
       let r = walked_simple s w in
-      subst (d.OfItem p w r.0) (sym (opened (made.Assign r.1) (item.Assign r.1) (item.rolls-Assign r.1))) (law.assigns p s w)
+      subst (d.OfItem p w r.0) (sym (opened d (made.Assign r.1) (item.Assign r.1) (item.rolls-Assign r.1))) (law.assigns p s w)
   layer_holds (Do c) at p w = law.calls p c w
   layer_holds (Nest b) at p w =
       let r = walked_block b.0 (within p) w in
-      subst (d.OfItem p w (closed (length w.scope.names) r.0)) (sym (opened (made.Nest r.1) (item.Nest r.1) (item.rolls-Nest r.1)))
+      subst (d.OfItem p w (closed (length w.scope.names) r.0)) (sym (opened d (made.Nest r.1) (item.Nest r.1) (item.rolls-Nest r.1)))
       (law.nests p w r.0 (of_block d r.1) (b.1 (within p) w))
   layer_holds (If arms None) at p w =
       let a = each (at_nesting p) (map walked_arm (map (λ e. e.0) arms)) w in
-      subst (d.OfItem p w a.0) (sym (opened (made.If a.1 None) (item.If a.1 None) (item.rolls-If a.1 None)))
+      subst (d.OfItem p w a.0) (sym (opened d (made.If a.1 None) (item.If a.1 None) (item.rolls-If a.1 None)))
       (law.chooses p w a.0 (map (of_arm d) a.1) (chained walked_arm (of_arm d) d.OfArm p arms w))
   layer_holds (If arms (Some b)) at p w =
       let a = each (at_nesting p) (map walked_arm (map (λ e. e.0) arms)) w in
       let r = walked_block b.0 (within p) a.0 in
-      subst (d.OfItem p w (closed (length a.0.scope.names) r.0)) (sym (opened (made.If a.1 (Some r.1)) (item.If a.1 (Some r.1)) (item.rolls-If a.1 (Some r.1))))
+      subst (d.OfItem p w (closed (length a.0.scope.names) r.0)) (sym (opened d (made.If a.1 (Some r.1)) (item.If a.1 (Some r.1)) (item.rolls-If a.1 (Some r.1))))
       (law.chooses_last p w a.0 r.0 (map (of_arm d) a.1) (of_block d r.1) (chained walked_arm (of_arm d) d.OfArm p arms w) (b.1 (within p) a.0))
   layer_holds (While test b) at p w =
       let t = walked_test test w in
       let r = walked_block b.0 (in_loop p) t.0 in
-      subst (d.OfItem p w (closed (length w.scope.names) r.0)) (sym (opened (made.While t.1 r.1) (item.While t.1 r.1) (item.rolls-While t.1 r.1)))
+      subst (d.OfItem p w (closed (length w.scope.names) r.0)) (sym (opened d (made.While t.1 r.1) (item.While t.1 r.1) (item.rolls-While t.1 r.1)))
       (law.loops p test w r.0 (of_block d r.1) (b.1 (in_loop p) t.0))
   layer_holds (For head b) at p w =
       let s = walked_head (within p) head w in
       let r = walked_block b.0 (in_loop (within p)) s.0 in
-      subst (d.OfItem p w (closed (length w.scope.names) (closed (length s.0.scope.names) r.0))) (sym (opened (made.For s.1 r.1) (item.For s.1 r.1) (item.rolls-For s.1 r.1)))
+      subst (d.OfItem p w (closed (length w.scope.names) (closed (length s.0.scope.names) r.0))) (sym (opened d (made.For s.1 r.1) (item.For s.1 r.1) (item.rolls-For s.1 r.1)))
       (law.loops_for p head w r.0 (of_block d r.1) (b.1 (in_loop (within p)) s.0))
-  layer_holds Break at p w = subst (d.OfItem p w (noted (unless p.in_loop rule.Jump at) w)) (sym (opened made.Break item.Break item.rolls-Break)) (law.breaks p at w)
-  layer_holds Continue at p w = subst (d.OfItem p w (noted (unless p.in_loop rule.Jump at) w)) (sym (opened made.Continue item.Continue item.rolls-Continue)) (law.continues p at w)
+  layer_holds Break at p w = subst (d.OfItem p w (noted (unless p.in_loop rule.Jump at) w)) (sym (opened d made.Break item.Break item.rolls-Break)) (law.breaks p at w)
+  layer_holds Continue at p w = subst (d.OfItem p w (noted (unless p.in_loop rule.Jump at) w)) (sym (opened d made.Continue item.Continue item.rolls-Continue)) (law.continues p at w)
   layer_holds (Return r word) at p w = law.returns p word r w
 
   step_item : (x : Item-F Item Arm Block Piece) (y : Held) → bare_item y ≡ x → ItemHolds (roll-Item x)

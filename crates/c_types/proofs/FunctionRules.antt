@@ -87,7 +87,7 @@ module _ (keeps : FunDef → Bool)
 
 -- jumps
 
-from_all_functions : (keeps : FunDef → Bool) (f : ℕ) (ds : List FunDef) → list_all keeps ds ≡ true → each_from (λ k d. keeps d) f ds ≡ true
+pub from_all_functions : (keeps : FunDef → Bool) (f : ℕ) (ds : List FunDef) → list_all keeps ds ≡ true → each_from (λ k d. keeps d) f ds ≡ true
 from_all_functions keeps f [] h = refl
 from_all_functions keeps f (d ∷ ds) h =
     let parts = and_parts (keeps d) (list_all keeps ds) h in

@@ -428,7 +428,7 @@ chain_grows p w u xs (next v x y z zs one rest) = grows_both (home.Local p.funct
 behind_test : (p : Nesting) (e : Expr) (w u : Walk) → Grows (home.Local p.function) (walked_test e w).0 u → Grows (home.Local p.function) w (closed (length w.scope.names) u)
 behind_test p e w u g = closes (home.Local p.function) w u (grows_both (home.Local p.function) w (walked_test e w).0 u (test_grows (home.Local p.function) e w) g)
 
-growing_law : Law growing
+pub growing_law : Law growing
 growing_law = record {
   declares = λ p ds w. each_grows (home.Local p.function) (walked_declr p) (declr_grows p) ds w;
   assigns = λ p s w. simple_grows (home.Local p.function) s w;

@@ -13,6 +13,7 @@ mod JudgedLaws
 mod Live
 pub mod Functionwise
 pub mod Growing
+pub mod Headings
 pub mod LooseJumps
 pub mod Numbering
 pub mod NumberingCalls
@@ -20,11 +21,15 @@ pub mod NumberingLeaves
 pub mod NumberingTops
 pub mod Passing
 mod Peeled
+pub mod ProgramFits
+pub mod ProgramRules
 pub mod ProgramVariables
 pub mod Rows
 pub mod Standing
 pub mod TableLemmas
 mod StatementLaws
+pub mod Visible
+pub mod VisibleBlocks
 pub mod TypedBlocks
 pub mod TypedCalls
 pub mod TypedExpressions

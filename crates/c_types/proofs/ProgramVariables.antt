@@ -59,19 +59,20 @@ use Rattle.c_types.specs.Fits.{fits, is_int, is_pointer, same_sort, is_zero, is_
 use Rattle.c_types.specs.Functions.{noted_again, marked, with_body, function_as, function_by, main_faults, function_named, walked_heading, slot_of, with_slot, result_or_none, brace_of, walked_fun, walked_proto}
 use Rattle.c_types.specs.Judged.{breaks, of_one}
 use Rattle.c_types.specs.Offsets.{layer_stands, expr_stands, global_stands, bodies_of, is_behind_all, StandsFrom, FitsText}
-use Rattle.c_types.specs.Program.{start, walked_top, walked_from, definitions, IsProgram}
+use Rattle.c_types.specs.Program.{start, walked_top, walked_from, walked, definitions, IsProgram}
 use Rattle.c_types.specs.Scopes.{noted, with_scope, named_by, or_int, var_of, declared, type_faults}
 use Rattle.c_types.specs.Structs.{with_row, row_again, walked_fields, body_if, alias_if, numbered, walked_struct, opposite, opposite_of, constant_layer, constant, number_or_zero, start_number, start_faults, start_noted, walked_global}
 use Rattle.c_types.specs.Tables.{found}
-use Rattle.c_types.proofs.Functionwise.{clean_unless, headed_clean, definition_funs}
+use Rattle.c_types.proofs.Functionwise.{clean_unless, all_sofar, headed_clean, definition_funs}
 use Rattle.c_types.proofs.Growing.{declared_grows}
 use Rattle.c_types.proofs.Numbering.{Keeps, first_empty}
 use Rattle.c_types.proofs.NumberingCalls.{second_empty}
 use Rattle.c_types.proofs.NumberingLeaves.{gap_numbers, gap_count}
 use Rattle.c_types.proofs.NumberingTops.{gap_tops, heading_quiet, struct_quiet}
 use Rattle.c_types.proofs.Passing.{no_home, types_of, head_types, types_grow, numbered_grows, fields_grow, headed, with_params, inside, left, made_of, params_grow, inside_grows}
+use Rattle.c_types.proofs.ProgramRules.{type_known}
 use Rattle.c_types.proofs.Rows.{get_first, get_last, all_weaker}
-use Rattle.c_types.proofs.Standing.{Grows}
+use Rattle.c_types.proofs.Standing.{there, Grows}
 use Rattle.c_types.proofs.TypedParts.{declared_good, declared_vars}
 
 -- constants
@@ -478,8 +479,24 @@ same_homes p v h = by_home v.home h
     by_home (home.Result f) h = h
 
 -- variables have constants and names that fit their homes
-pub program_homes : (t : Tree) (p : Program) → IsProgram t p → FitsText t → IsTrue (list_all (λ (v : VarDef). home_fits (declarations p) v.ty v.home && name_fits v.name v.home) p.vars)
+program_homes : (t : Tree) (p : Program) → IsProgram t p → FitsText t → IsTrue (list_all (λ (v : VarDef). home_fits (declarations p) v.ty v.home && name_fits v.name v.home) p.vars)
 program_homes t p is fits =
     let all = (tops_homed [] t.tops (start (definitions t.tops)) fits (record { fit = λ c. refl })).fit is.clean in
     all_weaker (fits_home p.funs) (λ (v : VarDef). home_fits (declarations p) v.ty v.home && name_fits v.name v.home) (same_homes p) p.vars
     (subst (λ (q : Program). list_all (fits_home q.funs) q.vars ≡ true) (sym is.made) all)
+
+both_fit : (d : Declarations) (vs : List VarDef) → list_all (λ (v : VarDef). type_exists d v.ty) vs ≡ true → list_all (λ (v : VarDef). home_fits d v.ty v.home && name_fits v.name v.home) vs ≡ true
+    → list_all (variable_fits d) vs ≡ true
+both_fit d [] h g = refl
+both_fit d (v ∷ vs) h g =
+    let types = and_parts (type_exists d v.ty) (list_all (λ (v : VarDef). type_exists d v.ty) vs) h in
+    let homes = and_parts (home_fits d v.ty v.home && name_fits v.name v.home) (list_all (λ (v : VarDef). home_fits d v.ty v.home && name_fits v.name v.home) vs) g in
+    let parts = and_parts (home_fits d v.ty v.home) (name_fits v.name v.home) homes.0 in
+    ap (λ (b : Bool). b && home_fits d v.ty v.home && name_fits v.name v.home && list_all (variable_fits d) vs) types.0
+    ∙ ap (λ (b : Bool). b && name_fits v.name v.home && list_all (variable_fits d) vs) parts.0 ∙ ap (λ (b : Bool). b && list_all (variable_fits d) vs) parts.1 ∙ both_fit d vs types.1 homes.1
+
+-- variables are what they are declared as
+pub program_variables : (t : Tree) (p : Program) → IsProgram t p → FitsText t → IsTrue (list_all (variable_fits (declarations p)) p.vars)
+program_variables t p is fits =
+    let known = all_weaker (λ (v : VarDef). there (length (walked t).scope.structs) v.ty) (λ (v : VarDef). type_exists (declarations p) v.ty) (λ v. type_known t p is v.ty) (walked t).vars (all_sofar t is.clean).standing.vars in
+    both_fit (declarations p) p.vars (subst (λ (q : Program). list_all (λ (v : VarDef). type_exists (declarations p) v.ty) q.vars ≡ true) (sym is.made) known) (program_homes t p is fits)
