@@ -63,7 +63,8 @@ use Rattle.c_types.specs.Program.{start, walked_top, walked_from, walked, defini
 use Rattle.c_types.specs.Scopes.{noted, with_scope, named_by, or_int, var_of, declared, type_faults}
 use Rattle.c_types.specs.Structs.{with_row, row_again, walked_fields, body_if, alias_if, numbered, walked_struct, opposite, opposite_of, constant_layer, constant, number_or_zero, start_number, start_faults, start_noted, walked_global}
 use Rattle.c_types.specs.Tables.{found}
-use Rattle.c_types.proofs.Functionwise.{clean_unless, all_sofar, headed_clean, definition_funs}
+use Rattle.c_types.proofs.Functionwise.{all_sofar, headed_clean, definition_funs}
+use Rattle.c_types.proofs.Headings.{clean_unless}
 use Rattle.c_types.proofs.Growing.{declared_grows}
 use Rattle.c_types.proofs.Numbering.{Keeps, first_empty}
 use Rattle.c_types.proofs.NumberingCalls.{second_empty}

@@ -52,7 +52,7 @@ use Rattle.c_types.specs.Judged.{breaks, of_one, of_two, unless_broken}
 use Rattle.c_types.specs.Offsets.{expr_stands, arg_stands, size_stands, call_stands}
 use Rattle.c_types.specs.Scopes.{new_struct, tagged_by, based}
 use Rattle.c_types.specs.Tables.{found}
-use Rattle.c_types.proofs.Functionwise.{clean_unless}
+use Rattle.c_types.proofs.Headings.{clean_unless}
 use Rattle.c_types.proofs.Numbering.{first_empty}
 use Rattle.c_types.proofs.NumberingCalls.{second_empty}
 use Rattle.c_types.proofs.Rows.{get_one}

@@ -46,7 +46,7 @@ use Rattle.c_types.specs.Program.{field_def}
 use Rattle.c_types.specs.Scopes.{noted, named_by, named_if, or_int, variable_meaning, var_of, with_var, with_scope, declared, spec_type, type_faults, closed}
 use Rattle.c_types.specs.Statements.{walked_right, assigned, walked_simple, walked_initial, initial, walked_declr, returned_value}
 use Rattle.c_types.specs.Tables.{found}
-use Rattle.c_types.proofs.Functionwise.{clean_unless}
+use Rattle.c_types.proofs.Headings.{clean_unless}
 use Rattle.c_types.proofs.Growing.{note_grows, declared_grows, right_grows, simple_grows, initial_grows, gap_grows, test_grows}
 use Rattle.c_types.proofs.Numbering.{first_empty}
 use Rattle.c_types.proofs.NumberingCalls.{second_empty}

@@ -44,7 +44,7 @@ use Rattle.c_types.specs.Functions.{result_or_none}
 use Rattle.c_types.specs.Judged.{of_one}
 use Rattle.c_types.specs.Offsets.{right_stands}
 use Rattle.c_types.specs.Statements.{call_value, value_of_call, plain_value, walked_right, is_place_layer, is_place, is_variable_layer, is_variable, loose_target, call_target, is_plain_int, change_faults, put_faults, assign_faults, right_at, assigned, initial, returned_value, bare_return}
-use Rattle.c_types.proofs.Functionwise.{clean_unless}
+use Rattle.c_types.proofs.Headings.{clean_unless}
 use Rattle.c_types.proofs.Numbering.{first_empty}
 use Rattle.c_types.proofs.NumberingCalls.{second_empty}
 use Rattle.c_types.proofs.TypedExpressions.{made_sort, Stands, IsRight, AllRight, opens, expr_right}
