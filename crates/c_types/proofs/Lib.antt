@@ -1,6 +1,7 @@
 mod ArgumentLaws
 pub mod BlockInduction
 mod BlockLaws
+pub mod Bodies
 mod CallLaws
 mod CallTables
 pub mod FaultLemmas
@@ -21,14 +22,19 @@ pub mod NumberingLeaves
 pub mod NumberingTops
 pub mod Passing
 mod Peeled
+pub mod ProgramFits
 pub mod ProgramRules
+pub mod ProgramVariables
 pub mod Rows
 pub mod Standing
 pub mod TableLemmas
 mod StatementLaws
 pub mod Visible
 pub mod VisibleBlocks
+pub mod TypedBlocks
 pub mod TypedCalls
 pub mod TypedExpressions
+pub mod TypedParts
+pub mod TypedPrograms
 pub mod TypedStatements
 mod Zeros

@@ -29,8 +29,6 @@ use Rattle.c_types.specs.declared.faults.Rule.TheVariants as rule
 use Rattle.c_types.specs.declared.judged.Called.{Called}
 use Rattle.c_types.specs.declared.judged.Callee.{Callee}
 use Rattle.c_types.specs.declared.judged.Callee.TheVariants as callee
-use Rattle.c_types.specs.declared.judged.Checked.{Checked}
-use Rattle.c_types.specs.declared.judged.Directives.{Directives}
 use Rattle.c_types.specs.declared.judged.Directives.TheVariants as asked
 use Rattle.c_types.specs.declared.judged.Gives.{Gives}
 use Rattle.c_types.specs.declared.judged.Gives.TheVariants as gives
@@ -47,23 +45,18 @@ use Rattle.c_types.specs.declared.scope.Scope.{Scope}
 use Rattle.c_types.specs.declared.scope.Signature.{Signature}
 use Rattle.c_types.specs.declared.scope.StructRow.{StructRow}
 use Rattle.c_types.specs.declared.scope.Walk.{Walk}
-use Rattle.c_types.specs.declared.scope.Written.{Written}
-use Rattle.c_types.specs.declared.scope.Written.TheVariants.{Good, Bad}
-use Rattle.c_types.specs.Calls.{argument_by, argument, arguments_from, arguments, miscounted, callee_of, result_or_nothing, user_called, refused_call, user_declared, user_by, user_call, struct_row_measured, row_measured, struct_measured, type_measured, target_measured, unit_measured, request, request_one, request_many, request_of, behind as behind_faults, cast_of, request_behind, requested, next_directive, asked_for, directives, word_call, printed_args, printed_by, printed, put_char, walked_call}
+use Rattle.c_types.specs.Calls.{argument_by, argument, arguments_from, arguments, miscounted, callee_of, result_or_nothing, user_called, user_declared, user_by, user_call, struct_row_measured, row_measured, struct_measured, type_measured, target_measured, unit_measured, request, request_one, request_many, request_of, behind as behind_faults, cast_of, requested, next_directive, asked_for, directives, printed_by, printed, put_char, walked_call}
 use Rattle.c_types.specs.Expressions.{judged, variable}
 use Rattle.c_types.specs.Fits.{unless, fits, converted, is_int, is_pointer, same_sort, is_zero}
 use Rattle.c_types.specs.Judged.{breaks, of_one, of_two, unless_broken}
 use Rattle.c_types.specs.Offsets.{expr_stands, arg_stands, size_stands, call_stands}
-use Rattle.c_types.specs.Scopes.{new_struct, tagged_by, based, spec_type}
+use Rattle.c_types.specs.Scopes.{new_struct, tagged_by, based}
 use Rattle.c_types.specs.Tables.{found}
+use Rattle.c_types.proofs.Headings.{clean_unless}
 use Rattle.c_types.proofs.Numbering.{first_empty}
 use Rattle.c_types.proofs.NumberingCalls.{second_empty}
+use Rattle.c_types.proofs.Rows.{get_one}
 use Rattle.c_types.proofs.TypedExpressions.{made_sort, Stands, IsRight, AllRight, pointer_sort, variable_right, expr_right}
-
--- a rule that gives no fault is kept
-pub kept : (b : Bool) (r : Rule) (at : ℕ) → unless b r at ≡ [] → b ≡ true
-kept true r at h = refl
-kept false r at h = absurd cc
 
 or_false : (b : Bool) → (b || false) ≡ true → b ≡ true
 or_false true h = refl
@@ -141,14 +134,12 @@ same_directives text = asked_plain text 0 ∙ from_zero (made_directives text)
 
 -- structs without a body that are named
 
-old_row : (rows : List StructRow) (n : ℕ) (row : StructRow) (body : ℕ) → slice_get (rows ++ new_struct ∷ []) n ≡ Some row → row.body ≡ Some body → slice_get rows n ≡ Some row
-old_row [] zero row body h b =
-    let same : new_struct ≡ row = cc in
-    let none : None ≡ Some body = ap (λ (r : StructRow). r.body) same ∙ b in
-    absurd cc
-old_row [] (suc n) row body h b = absurd cc
-old_row (x ∷ rows) zero row body h b = h
-old_row (x ∷ rows) (suc n) row body h b = old_row rows n row body h b
+-- a struct with a body is none of those that come behind, which have none
+pub row_before : (rows more : List StructRow) → ((k : ℕ) (row : StructRow) → slice_get more k ≡ Some row → row.body ≡ None)
+    → (n : ℕ) (row : StructRow) (body : ℕ) → slice_get (rows ++ more) n ≡ Some row → row.body ≡ Some body → slice_get rows n ≡ Some row
+row_before [] more bare n row body is b = let no : None ≡ Some body = sym (bare n row is) ∙ b in absurd cc
+row_before (x ∷ rows) more bare zero row body is b = is
+row_before (x ∷ rows) more bare (suc n) row body is b = row_before rows more bare n row body is b
 
 module _ (d : Declarations) (behind : ℕ → Bool) where
   based_stands : (b : Base) (s : Scope) → Stands d behind s → Stands d behind (based b s).0
@@ -161,7 +152,7 @@ module _ (d : Declarations) (behind : ℕ → Bool) where
       by_tag (Some n) = h
       by_tag None = record {
         variables = h.variables;
-        structs = λ n row body at is b after. h.structs n row body at (old_row s.structs n row body is b) b after;
+        structs = λ n row body at is b after. h.structs n row body at (row_before s.structs (new_struct ∷ []) (λ k row. get_one (λ (r : StructRow). r.body ≡ None) new_struct refl k row) n row body is b) b after;
       }
 
   cast_stands : (c : Option Spec) (s : Scope) → Stands d behind s → Stands d behind (cast_of c s).0
@@ -169,7 +160,7 @@ module _ (d : Declarations) (behind : ℕ → Bool) where
   cast_stands (Some c) s h = based_stands c.base s h
 
 -- the function of that number has those types, and isn't main
-pub record IsCalled (d : Declarations) (f : ℕ) (g : Signature) : Type 0 where
+pub record IsCallee (d : Declarations) (f : ℕ) (g : Signature) : Type 0 where
   pub fun : Prototype
   pub is : slice_get d.funs f ≡ Some fun
   pub result : fun.result ≡ g.result
@@ -190,7 +181,7 @@ module _ (d : Declarations) where
   argument_goes : (t : Ty) (at : ℕ) (j : Judged Value) → AllRight d false j → (argument_by (Some t) at j).faults ≡ []
       → has (goes_into t) (sort_of d (argument_by (Some t) at j).made) ≡ true
   argument_goes t at (Broken fs) h none = absurd (h none)
-  argument_goes t at (Typed v) h none = value_goes t v h (kept (fits t v) rule.TypesDiffer at none)
+  argument_goes t at (Typed v) h none = value_goes t v h (clean_unless (fits t v) rule.TypesDiffer at none)
 
   -- each of these goes into its type
   abbrev Go : List Ty → List Made → Type 0
@@ -234,7 +225,7 @@ module _ (d : Declarations) where
   AllCall (Broken fs) = fs ≡ [] → ⊥
 
   counted_right : (fs : List Fault) (wanted given at : ℕ) → miscounted fs wanted given at ≡ [] → (fs ≡ []) × (wanted ≡ given)
-  counted_right [] wanted given at h = (refl, eqb-true wanted given (kept (wanted == given) rule.ArgumentCount at h))
+  counted_right [] wanted given at h = (refl, eqb-true wanted given (clean_unless (wanted == given) rule.ArgumentCount at h))
   counted_right (f ∷ fs) wanted given at h = absurd cc
 
   unless_right : (c : Called) (fs : List Fault) → (fs ≡ [] → CallRight c.call c.gives) → AllCall (unless_broken c fs)
@@ -258,8 +249,7 @@ module _ (d : Declarations) where
         let clean : (argument s (slice_get ts k) a).faults ≡ [] = first_empty (argument s (slice_get ts k) a).faults (arguments_from s ts (k + 1) args).faults none in
         let first : (argument_by (Some u) a.at j).faults ≡ [] = subst (λ (o : Option Ty). (argument_by o a.at j).faults ≡ []) this clean in
         let right = argument_goes u a.at j (expr_right d behind s here a.expr parts.0 false) first in
-        let behind_it : length us ≡ length args = cc in
-        (
+        let behind_it : length us ≡ length args = cc in (
           subst (λ (o : Option Ty). has (goes_into u) (sort_of d (argument_by o a.at j).made) ≡ true) (sym this) right,
           args_go s here ts us (k + 1) args (λ i. let e : (k + 1) + i ≡ k + suc i = omega arith in ap (slice_get ts) e ∙ at (suc i)) parts.1 behind_it
               (second_empty (argument s (slice_get ts k) a).faults (arguments_from s ts (k + 1) args).faults none),
@@ -272,7 +262,7 @@ module _ (d : Declarations) where
     -- users' calls
 
     user_right : (w : Walk) → Here w.scope
-        → ((n : Word) (f k : ℕ) (g : Signature) → callee_of w n ≡ callee.Defined f k → slice_get w.signatures k ≡ Some g → IsCalled d f g)
+        → ((n : Word) (f k : ℕ) (g : Signature) → callee_of w n ≡ callee.Defined f k → slice_get w.signatures k ≡ Some g → IsCallee d f g)
         → (n : Word) (args : List Arg) (close : ℕ) → list_all (arg_stands behind) args ≡ true → AllCall (user_call w n args close)
     user_right w here callees n args close h = by_callee (callee_of w n) refl
       where
@@ -280,7 +270,7 @@ module _ (d : Declarations) where
         by_result c None e = tt
         by_result c (Some t) e = e
 
-        called : (f : ℕ) (g : Signature) → IsCalled d f g → AllCall (user_called w n f g args close (arguments w.scope g.params args))
+        called : (f : ℕ) (g : Signature) → IsCallee d f g → AllCall (user_called w n f g args close (arguments w.scope g.params args))
         called f g is =
             let cs = arguments w.scope g.params args in
             unless_right (record { call = made.User w.calls f cs.made n.at; gives = result_or_nothing g.result; at = n.at }) (miscounted cs.faults (length g.params) (length args) close)
@@ -421,7 +411,7 @@ module _ (d : Declarations) where
 
     -- a call that breaks no rule fits
     pub call_right : (w : Walk) → Here w.scope
-        → ((n : Word) (f k : ℕ) (g : Signature) → callee_of w n ≡ callee.Defined f k → slice_get w.signatures k ≡ Some g → IsCalled d f g)
+        → ((n : Word) (f k : ℕ) (g : Signature) → callee_of w n ≡ callee.Defined f k → slice_get w.signatures k ≡ Some g → IsCallee d f g)
         → (c : Call) → call_stands behind c ≡ true → AllCall (walked_call c w).1
     call_right w here callees (call.User n args close) h = user_right w here callees n args close h
     call_right w here callees (call.Malloc cast z at) h =

@@ -1,12 +1,12 @@
 -- An expression that has a type in the walk through a text has that type in the program.
-use Rattle.std.proofs.Common.{◌≡◌, ℕ, zero, suc, ◌+◌, Bool, true, false, cond, ◌&&◌, ◌||◌, ℤ, List, [], ◌∷◌, map, Option, Some, None, option_map, refl, sym, ap, subst, ◌∙◌}
+use Rattle.std.proofs.Common.{◌≡◌, ℕ, suc, Bool, true, false, cond, ◌&&◌, ◌||◌, List, [], ◌∷◌, map, Option, Some, None, option_map, refl, sym, ap, subst, ◌∙◌}
 use Rattle.std.specs.Prelude.{slice_get, if◌then◌else◌, pos}
-use Rattle.std.specs.Option.{is_some, option_and_then}
+use Rattle.std.specs.Option.{option_and_then}
 use Rattle.std.specs.Ordering.{int_eq}
 use Rattle.std.proofs.lemmas.Bool.{and_parts}
 use Rattle.std.proofs.lemmas.Option.{slice_get-map}
 use Rattle.c_tree.specs.AlikeTest.{same_ty}
-use Rattle.c_tree.specs.Typing.{Declarations, var_type, fields_of, field_type, has, fits as fits_int, member, pointee, element, valued, int_if, have, on_numbers, is_int as made_int, are_comparable, on_comparable, on_conditions, Sort as MadeSort, Of as MadeOf, AnyPointer as MadeAny, Judged as MadeJudged, judged as made_judged, judged_layer as made_layer, signed as made_signed, combined as made_combined, sort_of, is_condition}
+use Rattle.c_tree.specs.Typing.{Declarations, var_type, fields_of, field_type, has, fits as fits_int, member, pointee, valued, int_if, on_numbers, is_int as made_int, are_comparable, on_comparable, on_conditions, Sort as MadeSort, Of as MadeOf, AnyPointer as MadeAny, Judged as MadeJudged, judged as made_judged, judged_layer as made_layer, combined as made_combined, sort_of, is_condition}
 use Rattle.c_tree.specs.declared.expr.Expr.{Expr as Made, Expr-F as Made-F, out-Expr, roll-Expr as roll-Made, roll-out-Expr, map-Expr as map-Made, fold-roll-Expr as fold-roll-Made}
 use Rattle.c_tree.specs.declared.expr.Expr.TheOpen as made
 use Rattle.c_tree.specs.declared.expr.Expr.TheVariants as expr
@@ -17,7 +17,7 @@ use Rattle.c_tree.specs.declared.expr.Sign.TheVariants as sign
 use Rattle.c_tree.specs.declared.program.FieldDef.{FieldDef}
 use Rattle.c_tree.specs.declared.program.Ty.{Ty}
 use Rattle.c_tree.specs.declared.program.Ty.TheVariants as ty
-use Rattle.c_tree.specs.declared.tree.Expr.{Expr, Expr-F, roll-Expr, map-Expr, fold-roll-Expr, ind-Expr}
+use Rattle.c_tree.specs.declared.tree.Expr.{Expr, Expr-F, map-Expr, fold-roll-Expr, ind-Expr}
 use Rattle.c_tree.specs.declared.tree.Expr.TheOpen.{Const, Null, Var, Field, Deref, Index, Unary, Binary}
 use Rattle.c_tree.specs.declared.tree.Word.{Word}
 use Rattle.c_types.specs.declared.faults.Rule.{Rule}

@@ -1,10 +1,10 @@
 -- A right side, an assignment, an initialiser or a returned value that breaks no rule in the walk through a text fits in the program.
-use Rattle.std.proofs.Common.{◌≡◌, ℕ, ◌+◌, Bool, true, false, ◌&&◌, ◌||◌, List, [], ◌∷◌, ◌++◌, Option, Some, None, option_map, refl, sym, ap, subst, ◌∙◌}
+use Rattle.std.proofs.Common.{◌≡◌, ℕ, Bool, true, false, ◌&&◌, [], ◌++◌, Option, Some, None, option_map, refl, sym, ap, subst, ◌∙◌}
 use Rattle.std.specs.Prelude.{slice_get, if◌then◌else◌}
 use Rattle.std.specs.Option.{option_and_then}
 use Rattle.std.proofs.lemmas.Bool.{and_parts}
 use Rattle.c_tree.specs.AlikeTest.{same_ty}
-use Rattle.c_tree.specs.Typing.{Declarations, has, if_any, is_int as is_made_int, var_type, field_type, member, pointee, element, fits as fits_int, valued, int_if, Sort as MadeSort, Of as MadeOf, AnyPointer as MadeAny, Judged as MadeJudged, judged as made_judged, sort_of, gives_int, call_fits, call_type, is_place as made_place, is_variable as made_variable, place_takes, right_fits, value_fits, change_fits, assigned_fits, type_of, simple_fits, return_fits}
+use Rattle.c_tree.specs.Typing.{Declarations, has, is_int as is_made_int, var_type, field_type, member, pointee, element, valued, Sort as MadeSort, Of as MadeOf, AnyPointer as MadeAny, Judged as MadeJudged, judged as made_judged, sort_of, gives_int, call_fits, call_type, is_place as made_place, is_variable as made_variable, place_takes, right_fits, value_fits, change_fits, assigned_fits, type_of, simple_fits, return_fits}
 use Rattle.c_tree.specs.declared.expr.Expr.{Expr as Made, Expr-F as Made-F, out-Expr, roll-Expr as roll-Made, roll-out-Expr}
 use Rattle.c_tree.specs.declared.expr.Expr.TheOpen as made
 use Rattle.c_tree.specs.declared.expr.Op.{Op}
@@ -20,7 +20,6 @@ use Rattle.c_tree.specs.declared.tree.Right.{Right}
 use Rattle.c_tree.specs.declared.tree.Right.TheVariants as right
 use Rattle.c_tree.specs.declared.tree.Simple.{Simple}
 use Rattle.c_tree.specs.declared.tree.Word.{Word}
-use Rattle.c_types.specs.declared.faults.Fault.{Fault}
 use Rattle.c_types.specs.declared.faults.Rule.TheVariants as rule
 use Rattle.c_types.specs.declared.judged.Called.{Called}
 use Rattle.c_types.specs.declared.judged.Callee.TheVariants as callee
@@ -37,18 +36,25 @@ use Rattle.c_types.specs.declared.scope.Returned.{Returned}
 use Rattle.c_types.specs.declared.scope.Returned.TheVariants as returned
 use Rattle.c_types.specs.declared.scope.Signature.{Signature}
 use Rattle.c_types.specs.declared.scope.Walk.{Walk}
-use Rattle.c_types.specs.declared.scope.Written.TheVariants.{Good, Bad}
+use Rattle.c_types.specs.declared.scope.Written.TheVariants.{Good}
 use Rattle.c_types.specs.Calls.{callee_of, walked_call}
 use Rattle.c_types.specs.Expressions.{judged}
-use Rattle.c_types.specs.Fits.{unless, fits, is_int, converted, cast_fits, request_fits, misfits, right_for}
+use Rattle.c_types.specs.Fits.{unless, fits, is_int, cast_fits, request_fits, misfits, right_for}
 use Rattle.c_types.specs.Functions.{result_or_none}
 use Rattle.c_types.specs.Judged.{of_one}
 use Rattle.c_types.specs.Offsets.{right_stands}
-use Rattle.c_types.specs.Statements.{call_value, value_of_call, plain_value, walked_right, is_place_layer, is_place, is_variable_layer, is_variable, loose_target, call_target, is_plain_int, change_faults, put_faults, assign_faults, right_at, typed_faults, assigned, initial, returned_value, bare_return}
+use Rattle.c_types.specs.Statements.{call_value, value_of_call, plain_value, walked_right, is_place_layer, is_place, is_variable_layer, is_variable, loose_target, call_target, is_plain_int, change_faults, put_faults, assign_faults, right_at, assigned, initial, returned_value, bare_return}
+use Rattle.c_types.proofs.Headings.{clean_unless}
 use Rattle.c_types.proofs.Numbering.{first_empty}
 use Rattle.c_types.proofs.NumberingCalls.{second_empty}
 use Rattle.c_types.proofs.TypedExpressions.{made_sort, Stands, IsRight, AllRight, opens, expr_right}
-use Rattle.c_types.proofs.TypedCalls.{kept, IsCalled, value_goes, GivesRight, CallRight, AllCall, call_right}
+use Rattle.c_types.proofs.TypedCalls.{IsCallee, value_goes, CallRight, AllCall, call_right}
+
+-- a result whose type broke no rule
+abbrev pub IsGood : Returned → Type 0
+IsGood returned.Nothing = Unit {0}
+IsGood (returned.Value t) = Unit {0}
+IsGood (returned.Bad f) = ⊥
 
 -- places
 
@@ -138,7 +144,7 @@ module _ (d : Declarations) where
   by_plain (Broken fs) h = h
 
   pub right_right : (behind : ℕ → Bool) (w : Walk) → Stands d behind w.scope
-      → ((n : Word) (f k : ℕ) (g : Signature) → callee_of w n ≡ callee.Defined f k → slice_get w.signatures k ≡ Some g → IsCalled d f g)
+      → ((n : Word) (f k : ℕ) (g : Signature) → callee_of w n ≡ callee.Defined f k → slice_get w.signatures k ≡ Some g → IsCallee d f g)
       → (r : Right) → right_stands behind r ≡ true → AllValue (walked_right r w).1
   right_right behind w here callees (right.Plain a) h = by_plain (judged w.scope a.expr false) (expr_right d behind w.scope here a.expr h false)
   right_right behind w here callees (right.Call c) h = by_called (walked_call c w).1 (call_right d behind w here callees c h)
@@ -157,10 +163,10 @@ module _ (d : Declarations) where
       ap (λ (b : Bool). b && has (same_ty t) (call_type d c) && takes c) fits ∙ ap (λ (o : Option Ty). has (same_ty t) o && takes c) is ∙ ap (λ (b : Bool). b && takes c) same ∙ take
 
   typed_fits : (takes : MadeCall → Bool) (t : Ty) (at : ℕ) (r : RightValue) → ValueRight r → Takes takes r → misfits t at r ≡ [] → right_fits d takes t (right_for t r) ≡ true
-  typed_fits takes t at (value.Plain v) h take none = value_goes d t v h (kept (fits t v) rule.TypesDiffer at none)
-  typed_fits takes t at (value.Result c u) h take none = call_goes takes t u c h.0 h.1 (kept (same_ty t u) rule.TypesDiffer at none) take
+  typed_fits takes t at (value.Plain v) h take none = value_goes d t v h (clean_unless (fits t v) rule.TypesDiffer at none)
+  typed_fits takes t at (value.Result c u) h take none = call_goes takes t u c h.0 h.1 (clean_unless (same_ty t u) rule.TypesDiffer at none) take
   typed_fits takes t at (value.Requested c r) h take none =
-      call_goes takes t r.points c h.0 h.1 (and_parts (same_ty t r.points) (cast_fits t r.cast) (kept (request_fits t r) rule.Request r.at none)).0 take
+      call_goes takes t r.points c h.0 h.1 (and_parts (same_ty t r.points) (cast_fits t r.cast) (clean_unless (request_fits t r) rule.Request r.at none)).0 take
 
   all_taken : (r : RightValue) → Takes (λ c. true) r
   all_taken (value.Plain v) = tt
@@ -171,12 +177,6 @@ module _ (d : Declarations) where
   pub initial_right : (t : Ty) (at : ℕ) (j : Judged RightValue) → AllValue j → (initial (Good t) at j).faults ≡ [] → value_fits d t (initial (Good t) at j).made ≡ true
   initial_right t at (Broken fs) h none = absurd (h none)
   initial_right t at (Typed r) h none = typed_fits (λ c. true) t at r h (all_taken r) none
-
-  -- a result without fault
-  abbrev pub IsGood : Returned → Type 0
-  IsGood returned.Nothing = Unit {0}
-  IsGood (returned.Value t) = Unit {0}
-  IsGood (returned.Bad f) = ⊥
 
   -- a returned value
   pub returned_right : (t : Returned) → IsGood t → (at : ℕ) (j : Judged RightValue) → AllValue j → (returned_value t at j).faults ≡ []
@@ -195,7 +195,7 @@ module _ (d : Declarations) where
   -- assignments
 
   loose_taken : (place : Made-F Made) (at : ℕ) (c : MadeCall) → loose_target (is_variable_layer place) at c ≡ [] → place_takes place c ≡ true
-  loose_taken place at (made_call.User n f args offset) none = variables_agree place (kept (is_variable_layer place) rule.CallTarget at none)
+  loose_taken place at (made_call.User n f args offset) none = variables_agree place (clean_unless (is_variable_layer place) rule.CallTarget at none)
   loose_taken place at (made_call.Malloc size offset) none = refl
   loose_taken place at (made_call.Getchar offset) none = refl
   loose_taken place at (made_call.Putchar e offset) none = refl
@@ -207,7 +207,7 @@ module _ (d : Declarations) where
   place_taken e at (value.Requested c r) h none = h.2 (out-Expr e)
 
   change_right : (t : Ty) (at : ℕ) (r : RightValue) → ValueRight r → change_faults (Of t) at r ≡ [] → change_fits d t (right_for t r) ≡ true
-  change_right t at r h none = by_type t r h (kept (if is_int (Of t) then is_plain_int r else false) rule.Operands at none)
+  change_right t at r h none = by_type t r h (clean_unless (if is_int (Of t) then is_plain_int r else false) rule.Operands at none)
     where
       by_sort : (e : Made) (g : Sort) → IsRight d false e g → is_int g ≡ true → gives_int d e ≡ true
       by_sort e (Of ty.Int) h is = ap (has is_made_int) (h.value refl)
@@ -246,7 +246,7 @@ module _ (d : Declarations) where
   simple_right s (Typed p) (Typed r) h g none = by_sort p.sort refl
     where
       on_place : is_place p.expr ≡ true
-      on_place = kept (is_place p.expr) rule.NoPlace s.place.at (first_empty (unless (is_place p.expr) rule.NoPlace s.place.at) (assign_faults s.op p s.at r) none)
+      on_place = clean_unless (is_place p.expr) rule.NoPlace s.place.at (first_empty (unless (is_place p.expr) rule.NoPlace s.place.at) (assign_faults s.op p s.at r) none)
 
       by_sort : (g : Sort) → p.sort ≡ g → simple_fits d (assigned s (Typed p) (Typed r)).made ≡ true
       by_sort AnyPointer is = absurd (no_place p.expr on_place (h.value refl ∙ ap (λ (k : Sort). Some (made_sort k)) is))

@@ -1,7 +1,7 @@
 -- What the types of a program ask of the offsets and the constants of its tree: a text's tree has all of it, a tree by
 -- itself may not. The walk through a text asks whether a struct's body has come; a program, which keeps no order of its
 -- declarations, compares offsets for it.
-use Rattle.std.specs.Prelude.{ℕ, nat_lt, Bool, true, ◌&&◌, ℤ, List, [], ◌∷◌, ◌++◌, Option, Some, None, IsTrue}
+use Rattle.std.specs.Prelude.{ℕ, nat_lt, Bool, true, ◌&&◌, List, [], ◌∷◌, ◌++◌, Some, None, IsTrue}
 use Rattle.std.specs.List.{list_all}
 use Rattle.c_tree.specs.Typing.{fits, if_any}
 use Rattle.c_tree.specs.declared.tree.Arg.{Arg}
