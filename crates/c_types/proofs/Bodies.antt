@@ -41,13 +41,13 @@ use Rattle.c_types.proofs.TypedCalls.{row_before}
 abbrev pub NoBodies : List StructRow → List StructRow → Type 0
 NoBodies rows more = (n : ℕ) (row : StructRow) (body : ℕ) → slice_get more n ≡ Some row → row.body ≡ Some body → slice_get rows n ≡ Some row
 
-pub no_more : (rows : List StructRow) → NoBodies rows rows
+no_more : (rows : List StructRow) → NoBodies rows rows
 no_more rows n row body is b = is
 
-pub no_both : (xs ys zs : List StructRow) → NoBodies xs ys → NoBodies ys zs → NoBodies xs zs
+no_both : (xs ys zs : List StructRow) → NoBodies xs ys → NoBodies ys zs → NoBodies xs zs
 no_both xs ys zs f g n row body is b = f n row body (g n row body is b) b
 
-pub grows_none : (h : Home) (w u : Walk) → Grows h w u → NoBodies w.scope.structs u.scope.structs
+grows_none : (h : Home) (w u : Walk) → Grows h w u → NoBodies w.scope.structs u.scope.structs
 grows_none h w u g n row body is b =
     row_before w.scope.structs g.more_structs g.bodiless n row body (subst (λ (rows : List StructRow). slice_get rows n ≡ Some row) g.structs is) b
 
@@ -83,7 +83,7 @@ named_structs h body t (Some n) w = by_structs n body t (found w.scope.names n.t
 as_before : (xs ys : List StructRow) → ys ≡ xs → NoBodies xs ys
 as_before xs ys e = subst (NoBodies xs) (sym e) (no_more xs)
 
-pub heading_none : (h : Head) (body : Bool) (w : Walk) → NoBodies w.scope.structs (walked_heading h body w).0.scope.structs
+heading_none : (h : Head) (body : Bool) (w : Walk) → NoBodies w.scope.structs (walked_heading h body w).0.scope.structs
 heading_none h body w =
     no_both w.scope.structs (head_types h w).scope.structs (walked_heading h body w).0.scope.structs (grows_none no_home w (head_types h w) (types_grow no_home h w))
     (as_before (head_types h w).scope.structs (walked_heading h body w).0.scope.structs (named_structs h body (types_of h w) h.result.name (head_types h w)))

@@ -1,5 +1,5 @@
 -- The variables of a text's program have types, constants and names that fit their homes.
-use Rattle.std.proofs.Common.{◌≡◌, ℕ, zero, suc, ◌+◌, ◌<◌, ◌≤◌, ◌==◌, Bool, true, false, ◌&&◌, ◌||◌, ℤ, List, [], ◌∷◌, ◌++◌, length, map, Option, Some, None, option_map, refl, sym, ap, subst, ◌∙◌, arith, append-nil, append_assoc}
+use Rattle.std.proofs.Common.{◌≡◌, ℕ, zero, suc, ◌<◌, ◌≤◌, ◌==◌, Bool, true, false, ◌&&◌, ◌||◌, ℤ, List, [], ◌∷◌, ◌++◌, length, map, Option, Some, None, option_map, refl, sym, ap, subst, ◌∙◌, arith, append-nil, append_assoc}
 use Rattle.std.specs.Prelude.{slice_get, slice_set, nat_lt, pos, negsuc, neg_ℤ, ◌^◌, if◌then◌else◌, IsTrue}
 use Rattle.std.specs.List.{fold, list_all}
 use Rattle.std.specs.Option.{option_and_then}
@@ -12,10 +12,7 @@ use Rattle.std.proofs.lemmas.Option.{slice_get-map}
 use Rattle.c_tree.specs.AlikeTest.{same_ty}
 use Rattle.c_tree.specs.Typing.{Prototype, Declarations, declarations, prototype, has, if_any, fits as fits_int, result_of}
 use Rattle.c_tree.specs.WellFormed.{type_exists, home_fits, name_fits, variable_fits}
-use Rattle.c_tree.specs.declared.expr.Expr.{Expr as Made, out-Expr, out-roll-Expr}
 use Rattle.c_tree.specs.declared.expr.Expr.TheVariants as expr
-use Rattle.c_tree.specs.declared.expr.Expr.TheOpen as made
-use Rattle.c_tree.specs.declared.expr.Sign.{Sign}
 use Rattle.c_tree.specs.declared.expr.Sign.TheVariants as sign
 use Rattle.c_tree.specs.declared.program.FunDef.{FunDef}
 use Rattle.c_tree.specs.declared.program.Home.{Home}
@@ -38,7 +35,6 @@ use Rattle.c_types.specs.declared.faults.Fault.{Fault}
 use Rattle.c_types.specs.declared.faults.Rule.TheVariants as rule
 use Rattle.c_types.specs.declared.judged.Judged.{Judged}
 use Rattle.c_types.specs.declared.judged.Judged.TheVariants.{Typed, Broken}
-use Rattle.c_types.specs.declared.judged.Sort.{Sort}
 use Rattle.c_types.specs.declared.judged.Sort.TheVariants.{Of, AnyPointer}
 use Rattle.c_types.specs.declared.judged.Value.{Value}
 use Rattle.c_types.specs.declared.scope.Entry.{Entry}
@@ -55,7 +51,7 @@ use Rattle.c_types.specs.declared.scope.Walk.{Walk}
 use Rattle.c_types.specs.declared.scope.Written.{Written}
 use Rattle.c_types.specs.declared.scope.Written.TheVariants.{Good, Bad}
 use Rattle.c_types.specs.Expressions.{typed, of_int, signed, judged_layer, judged}
-use Rattle.c_types.specs.Fits.{fits, is_int, is_pointer, same_sort, is_zero, is_zero_layer, unless}
+use Rattle.c_types.specs.Fits.{fits, is_int, is_zero, is_zero_layer}
 use Rattle.c_types.specs.Functions.{noted_again, marked, with_body, function_as, function_by, main_faults, function_named, walked_heading, slot_of, with_slot, result_or_none, brace_of, walked_fun, walked_proto}
 use Rattle.c_types.specs.Judged.{breaks, of_one}
 use Rattle.c_types.specs.Offsets.{layer_stands, expr_stands, global_stands, bodies_of, is_behind_all, StandsFrom, FitsText}
@@ -429,9 +425,9 @@ slot_homed (returned.Value t) funs x at v is h =
     let all = funs ++ x ∷ [] in
     let s = slot_of t (length funs) at in
     let here : slice_get (map prototype all) (length funs) ≡ Some (prototype x) =
-        slice_get-map prototype all (length funs) ∙ ap (option_map prototype) (get_last funs x) in
+    slice_get-map prototype all (length funs) ∙ ap (option_map prototype) (get_last funs x) in
     let same : has (same_ty t) (result_of (functions_only all) (length funs)) ≡ true =
-        ap (λ (o : Option Prototype). has (same_ty t) (option_and_then (λ (q : Prototype). q.result) o)) here ∙ ap (has (same_ty t)) is ∙ same_type t in
+    ap (λ (o : Option Prototype). has (same_ty t) (option_and_then (λ (q : Prototype). q.result) o)) here ∙ ap (has (same_ty t)) is ∙ same_type t in
     list_all-append (fits_home all) v.vars (s ∷ []) ∙ ap (λ (b : Bool). b && list_all (fits_home all) (s ∷ [])) h ∙ ap (λ (b : Bool). b && true && true) same
 
 function_homed : (h : Head) (body : Block) (w : Walk) → Homed w → Homed (walked_fun h body w)
@@ -445,12 +441,12 @@ function_homed h body w homed = record {
       let x = made_of h body w in
       let all = w.funs ++ x ∷ [] in
       let a = adds_both w r.0 b.0 (heading_adds h true w)
-          (adds_both r.0 ps.0 b.0 (grows_adds (home.Param f) r.0 ps.0 refl (params_grow h body w)) (grows_adds (home.Local f) ps.0 b.0 refl (inside_grows h body w))) in
+      (adds_both r.0 ps.0 b.0 (grows_adds (home.Param f) r.0 ps.0 refl (params_grow h body w)) (grows_adds (home.Local f) ps.0 b.0 refl (inside_grows h body w))) in
       let before : w.faults ≡ [] = (heading_quiet gap_numbers gap_count gap_tops h true w).clean (headed_clean h body w c) in
       let old : list_all (fits_home all) w.vars ≡ true = all_weaker (fits_home w.funs) (fits_home all) (home_more w.funs x) w.vars (homed.fit before) in
       let new : list_all (fits_home all) a.more ≡ true = all_weaker is_own (fits_home all) (own_fits all) a.more a.own in
       let both : list_all (fits_home all) l.vars ≡ true =
-          ap (list_all (fits_home all)) a.vars ∙ list_all-append (fits_home all) w.vars a.more ∙ ap (λ (t : Bool). t && list_all (fits_home all) a.more) old ∙ new in
+      ap (list_all (fits_home all)) a.vars ∙ list_all-append (fits_home all) w.vars a.more ∙ ap (λ (t : Bool). t && list_all (fits_home all) a.more) old ∙ new in
       ap (λ (ds : List FunDef). list_all (fits_home ds) (walked_fun h body w).vars) (definition_funs h body w)
       ∙ slot_homed r.1 w.funs x (brace_of body) l refl both;
 }

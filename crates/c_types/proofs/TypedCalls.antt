@@ -24,7 +24,6 @@ use Rattle.c_tree.specs.declared.tree.Unit.{Unit as MeasuredUnit}
 use Rattle.c_tree.specs.declared.tree.Unit.TheVariants as unit
 use Rattle.c_tree.specs.declared.tree.Word.{Word}
 use Rattle.c_types.specs.declared.faults.Fault.{Fault}
-use Rattle.c_types.specs.declared.faults.Rule.{Rule}
 use Rattle.c_types.specs.declared.faults.Rule.TheVariants as rule
 use Rattle.c_types.specs.declared.judged.Called.{Called}
 use Rattle.c_types.specs.declared.judged.Callee.{Callee}
@@ -47,7 +46,7 @@ use Rattle.c_types.specs.declared.scope.StructRow.{StructRow}
 use Rattle.c_types.specs.declared.scope.Walk.{Walk}
 use Rattle.c_types.specs.Calls.{argument_by, argument, arguments_from, arguments, miscounted, callee_of, result_or_nothing, user_called, user_declared, user_by, user_call, struct_row_measured, row_measured, struct_measured, type_measured, target_measured, unit_measured, request, request_one, request_many, request_of, behind as behind_faults, cast_of, requested, next_directive, asked_for, directives, printed_by, printed, put_char, walked_call}
 use Rattle.c_types.specs.Expressions.{judged, variable}
-use Rattle.c_types.specs.Fits.{unless, fits, converted, is_int, is_pointer, same_sort, is_zero}
+use Rattle.c_types.specs.Fits.{fits, converted, is_int, is_pointer, same_sort, is_zero}
 use Rattle.c_types.specs.Judged.{breaks, of_one, of_two, unless_broken}
 use Rattle.c_types.specs.Offsets.{expr_stands, arg_stands, size_stands, call_stands}
 use Rattle.c_types.specs.Scopes.{new_struct, tagged_by, based}

@@ -55,7 +55,7 @@ pub record Stands (d : Declarations) (behind : ℕ → Bool) (s : Scope) : Type 
       → fields_of d at n ≡ Some (map field_def row.fields)
 
 -- the value of a row by its place
-pub value_at : {A : Type 0} (rows : List (List ℕ × A)) (name : List ℕ) (k : ℕ) (x : A) → place_of rows name ≡ Some k → found rows name ≡ Some x
+value_at : {A : Type 0} (rows : List (List ℕ × A)) (name : List ℕ) (k : ℕ) (x : A) → place_of rows name ≡ Some k → found rows name ≡ Some x
     → option_map (λ (r : List ℕ × A). r.1) (slice_get rows k) ≡ Some x
 value_at [] name k x p f = absurd cc
 value_at {A} (row ∷ rows) name k x p f = by_head (same_name name row.0) (place_of rows name) p f (λ j. value_at rows name j x)
@@ -224,7 +224,7 @@ module _ (d : Declarations) where
 
   -- the constant 0 is an int, and becomes a null pointer
 
-  pub zero_int : (e : Made) (g : Sort) → IsRight false e g → is_zero e ≡ true → g ≡ Of ty.Int
+  zero_int : (e : Made) (g : Sort) → IsRight false e g → is_zero e ≡ true → g ≡ Of ty.Int
   zero_int e g h is = of_layer (out-Expr e) (roll-out-Expr e) is
     where
       of_sort : (b : Bool) (g : Sort) → (if b then Some (MadeOf ty.Int) else None) ≡ Some (made_sort g) → g ≡ Of ty.Int

@@ -1,5 +1,5 @@
 -- The smallest parts of a block, walked at a place of a text without faults, have right types in the text's program.
-use Rattle.std.proofs.Common.{◌≡◌, ℕ, zero, suc, Bool, true, false, ◌&&◌, ◌||◌, List, [], ◌∷◌, ◌++◌, length, map, Option, Some, None, option_map, refl, sym, ap, subst, ◌∙◌}
+use Rattle.std.proofs.Common.{◌≡◌, ℕ, Bool, true, false, ◌&&◌, ◌||◌, List, [], ◌∷◌, ◌++◌, length, map, Option, Some, None, option_map, refl, ap, subst, ◌∙◌}
 use Rattle.std.specs.Prelude.{slice_get, nat_lt, if◌then◌else◌}
 use Rattle.std.specs.List.{list_all}
 use Rattle.std.proofs.lemmas.Bool.{and_parts}
@@ -43,7 +43,7 @@ use Rattle.c_types.specs.InTurn.{each}
 use Rattle.c_types.specs.Judged.{faults_of, or_null}
 use Rattle.c_types.specs.Offsets.{expr_stands, right_stands, declr_stands, simple_stands, free_stands, gap_stands}
 use Rattle.c_types.specs.Program.{field_def}
-use Rattle.c_types.specs.Scopes.{noted, named_by, named_if, or_int, variable_meaning, var_of, with_var, with_scope, declared, spec_type, type_faults, closed}
+use Rattle.c_types.specs.Scopes.{noted, named_by, named_if, or_int, variable_meaning, var_of, with_var, with_scope, declared, spec_type, type_faults}
 use Rattle.c_types.specs.Statements.{walked_right, assigned, walked_simple, walked_initial, initial, walked_declr, returned_value}
 use Rattle.c_types.specs.Tables.{found}
 use Rattle.c_types.proofs.Headings.{clean_unless}
@@ -105,9 +105,6 @@ module _ (behind : ℕ → Bool) where
     bodies = λ n row body at is b after.
         r.bodies n row body at (row_before w.scope.structs g.more_structs g.bodiless n row body (subst (λ (rows : List StructRow). slice_get rows n ≡ Some row) g.structs is) b) b after;
   }
-
-  pub ready_closed : (w u : Walk) → Standing (closed (length w.scope.names) u) → Ready behind u → Ready behind (closed (length w.scope.names) u)
-  ready_closed w u s r = record { standing = s; bodies = r.bodies }
 
 -- behind a right side its faults are noted
 pub noted_on : (final : Walk) (fs : List Fault) (w : Walk) → Onward (noted fs w) final → Onward w final
@@ -174,7 +171,7 @@ module _ (behind : ℕ → Bool) (final : Walk) (clean : final.faults ≡ []) wh
 
     -- right sides
 
-    pub value_right : (r : Right) (w : Walk) → right_stands behind r ≡ true → Ready behind w → Onward (walked_right r w).0 final → AllValue d (walked_right r w).1
+    value_right : (r : Right) (w : Walk) → right_stands behind r ≡ true → Ready behind w → Onward (walked_right r w).0 final → AllValue d (walked_right r w).1
     value_right r w h ready on =
         let before = onward_both w (walked_right r w).0 final (grows_onward (home.Local 0) w (walked_right r w).0 (right_grows (home.Local 0) r w)) on in
         right_right d behind w (stands_at d sees w ready before) (callees w before) r h
