@@ -1,10 +1,9 @@
 -- What a walk makes of a block, by induction over the block: relations between the walk before a part, the walk behind it, and
 -- what a fold makes of the part. Said once for all folds and relations; what the constructors owe is a record.
-use Rattle.std.proofs.Common.{◌≡◌, ℕ, Bool, List, [], ◌∷◌, length, map, option_map, Option, Some, None, sym, ap, subst, ◌∙◌}
+use Rattle.std.proofs.Common.{◌≡◌, ℕ, Bool, List, [], ◌∷◌, length, map, Option, Some, None, sym, ap, subst, ◌∙◌}
 use Rattle.c_tree.specs.declared.expr.Expr.{Expr as Made}
 use Rattle.c_tree.specs.declared.program.Arm.{Arm as MadeArm, Arm-F as MadeArm-F, roll-Arm as roll-MadeArm, fold-Arm as fold-MadeArm, fold-roll-Arm as fold-roll-MadeArm}
 use Rattle.c_tree.specs.declared.program.Block.{Block as MadeBlock, Block-F as MadeBlock-F, roll-Block as roll-MadeBlock, fold-Block as fold-MadeBlock, fold-roll-Block as fold-roll-MadeBlock}
-use Rattle.c_tree.specs.declared.program.Gap.{Gap as MadeGap}
 use Rattle.c_tree.specs.declared.program.Item.{Item as MadeItem, Item-F as MadeItem-F, roll-Item as roll-MadeItem, map-Item as map-MadeItem, fold-Item as fold-MadeItem, fold-roll-Item as fold-roll-MadeItem}
 use Rattle.c_tree.specs.declared.program.Item.TheVariants as item
 use Rattle.c_tree.specs.declared.program.Item.TheOpen as made

@@ -1,7 +1,6 @@
 -- Each part of a block grows the walk: it declares local variables at most, and names structs.
-use Rattle.std.proofs.Common.{◌≡◌, ℕ, ◌+◌, ◌<◌, ◌≤◌, ◌==◌, Bool, true, false, ◌&&◌, List, [], ◌∷◌, ◌++◌, length, slice_get, Option, Some, None, option_map, refl, sym, ap, subst, ◌∙◌, arith, append-nil, length-append}
+use Rattle.std.proofs.Common.{◌≡◌, ℕ, ◌+◌, ◌<◌, ◌≤◌, ◌==◌, Bool, true, false, ◌&&◌, List, [], ◌∷◌, ◌++◌, length, Option, Some, None, option_map, refl, sym, ap, subst, ◌∙◌, arith, append-nil, length-append}
 use Rattle.std.specs.Prelude.{if◌then◌else◌}
-use Rattle.std.specs.List.{list_all}
 use Rattle.std.proofs.lemmas.Bool.{lt-ltb}
 use Rattle.c_tree.specs.Typing.{if_any}
 use Rattle.c_tree.specs.declared.program.FunDef.{FunDef}
@@ -25,7 +24,6 @@ use Rattle.c_tree.specs.declared.tree.Unit.TheVariants as unit
 use Rattle.c_tree.specs.declared.tree.Right.{Right}
 use Rattle.c_tree.specs.declared.tree.Right.TheVariants as right
 use Rattle.c_tree.specs.declared.tree.Simple.{Simple}
-use Rattle.c_tree.specs.declared.tree.Size.{Size}
 use Rattle.c_tree.specs.declared.tree.Spec.{Spec}
 use Rattle.c_tree.specs.declared.tree.Start.{Start}
 use Rattle.c_tree.specs.declared.tree.Start.TheVariants as start
@@ -42,17 +40,16 @@ use Rattle.c_types.specs.declared.scope.Meaning.{Meaning}
 use Rattle.c_types.specs.declared.scope.Meaning.TheVariants as meaning
 use Rattle.c_types.specs.declared.scope.Nesting.{Nesting}
 use Rattle.c_types.specs.declared.scope.Returned.{Returned}
-use Rattle.c_types.specs.declared.scope.Scope.{Scope}
 use Rattle.c_types.specs.declared.scope.StructRow.{StructRow}
 use Rattle.c_types.specs.declared.scope.Walk.{Walk}
 use Rattle.c_types.specs.declared.scope.Written.{Written}
 use Rattle.c_types.specs.declared.scope.Written.TheVariants.{Good, Bad}
-use Rattle.c_types.specs.Blocks.{free_of, walked_free, test_of, next_gap, walked_gap, walked_test, within, in_loop, walked_start, walked_head, walked_block}
-use Rattle.c_types.specs.Calls.{cast_of, unit_measured, user_call, counted, requested, walked_call}
+use Rattle.c_types.specs.Blocks.{free_of, walked_free, test_of, next_gap, walked_gap, walked_test, within, walked_start, walked_head, walked_block}
+use Rattle.c_types.specs.Calls.{cast_of, unit_measured, user_call, counted, walked_call}
 use Rattle.c_types.specs.Expressions.{judged}
 use Rattle.c_types.specs.Fits.{unless}
 use Rattle.c_types.specs.InTurn.{each, optional}
-use Rattle.c_types.specs.Scopes.{new_struct, tagged_by, alias_as, alias_by, based, value_type, good_type, written, spec_type, noted, with_scope, with_name, named_by, named_if, named_any, clash, or_int, variable_meaning, var_of, with_var, variable_named, declared, closed, type_faults}
+use Rattle.c_types.specs.Scopes.{new_struct, tagged_by, alias_as, alias_by, based, value_type, good_type, written, spec_type, noted, with_scope, with_name, named_by, named_if, or_int, variable_meaning, var_of, with_var, declared, closed, type_faults}
 use Rattle.c_types.specs.Statements.{walked_right, assigned, walked_simple, initial, walked_initial, walked_declr, returned_value, bare_return, walked_return, call_item, walked_do}
 use Rattle.c_types.specs.Tables.{found}
 use Rattle.c_types.proofs.BlockInduction.{Reading, Law, Chain, done, next, blocks_hold}
@@ -145,7 +142,7 @@ tag_more h n w =
     let long : l ≡ k + 1 = length-append w.scope.structs (new_struct ∷ []) in
     struct_more h (w.scope.tags ++ (n.text, k) ∷ []) w
     (λ s m. found_either (λ (j : ℕ). j < l) w.scope.tags ((n.text, k) ∷ []) m
-      (λ j is. let below : j < k = s.tags m j is in omega arith) (λ j is. found_one (λ (j : ℕ). j < l) (n.text, k) (omega arith) m j is))
+    (λ j is. let below : j < k = s.tags m j is in omega arith) (λ j is. found_one (λ (j : ℕ). j < l) (n.text, k) (omega arith) m j is))
     (λ m j is. found_first w.scope.tags ((n.text, k) ∷ []) m j is)
 
 pub tag_grows : (h : Home) (n : Word) (w : Walk) (o : Option ℕ) → Grows h w (with_scope w (tagged_by n w.scope o).0)

@@ -1,64 +1,44 @@
 -- What stands behind the heading of a definition without faults: the function's name, and the types of its parameters.
-use Rattle.std.proofs.Common.{◌≡◌, ℕ, zero, suc, ◌+◌, ◌<◌, ◌≤◌, ◌==◌, Bool, true, false, ◌&&◌, List, [], ◌∷◌, ◌++◌, length, map, flat_map, get_or, slice_get, Option, Some, None, option_map, refl, sym, ap, subst, ◌∙◌, arith, append-nil, append_assoc, length-append}
-use Rattle.std.specs.Prelude.{IsTrue, not, slice_set, if◌then◌else◌}
+use Rattle.std.proofs.Common.{◌≡◌, ℕ, suc, ◌<◌, Bool, true, false, List, [], ◌∷◌, ◌++◌, length, map, flat_map, get_or, slice_get, Option, Some, None, option_map, refl, sym, ap, subst, ◌∙◌}
+use Rattle.std.specs.Prelude.{if◌then◌else◌}
 use Rattle.std.specs.Cmp.Lexicographic.{bytes_decides, pointwise}
-use Rattle.std.specs.List.{fold}
-use Rattle.std.proofs.lemmas.List.Sums.{fold-append}
 use Rattle.std.proofs.lemmas.Bool.{and_parts, eqb-true}
-use Rattle.std.proofs.lemmas.Cmp.{nat_list_eq_equiv}
-use Rattle.std.proofs.lemmas.List.{map-append, length-map}
-use Rattle.std.proofs.lemmas.Option.{slice_get-get_or, slice_get-map}
+use Rattle.std.proofs.lemmas.Option.{slice_get-get_or}
 use Rattle.c_tree.specs.AlikeTest.{same_ty, option_alike}
-use Rattle.c_tree.specs.Flow.{flow_of}
-use Rattle.c_tree.specs.WellFormed.{each_from, each_function}
 use Rattle.c_tree.specs.declared.program.FunDef.{FunDef}
-use Rattle.c_tree.specs.declared.program.Home.{Home}
 use Rattle.c_tree.specs.declared.program.Home.TheVariants as home
-use Rattle.c_tree.specs.declared.program.Program.{Program}
 use Rattle.c_tree.specs.declared.program.Ty.{Ty}
 use Rattle.c_tree.specs.declared.program.Ty.TheVariants as ty
 use Rattle.c_tree.specs.declared.program.VarDef.{VarDef}
 use Rattle.c_tree.specs.declared.tree.Base.{Base}
 use Rattle.c_tree.specs.declared.tree.Base.TheVariants as base
-use Rattle.c_tree.specs.declared.tree.Block.{Block}
 use Rattle.c_tree.specs.declared.tree.Head.{Head}
 use Rattle.c_tree.specs.declared.tree.Spec.{Spec}
-use Rattle.c_tree.specs.declared.tree.Top.{Top}
-use Rattle.c_tree.specs.declared.tree.Top.TheVariants as top
-use Rattle.c_tree.specs.declared.tree.Tree.{Tree}
 use Rattle.c_tree.specs.declared.tree.Word.{Word}
 use Rattle.c_types.specs.declared.faults.Fault.{Fault}
 use Rattle.c_types.specs.declared.faults.Rule.{Rule}
 use Rattle.c_types.specs.declared.faults.Rule.TheVariants as rule
-use Rattle.c_types.specs.declared.judged.Callee.{Callee}
-use Rattle.c_types.specs.declared.judged.Callee.TheVariants as callee
 use Rattle.c_types.specs.declared.scope.BaseType.TheVariants as type
 use Rattle.c_types.specs.declared.scope.Entry.{Entry}
 use Rattle.c_types.specs.declared.scope.Heading.{Heading}
 use Rattle.c_types.specs.declared.scope.Heading.TheVariants as heading
 use Rattle.c_types.specs.declared.scope.Meaning.{Meaning}
 use Rattle.c_types.specs.declared.scope.Meaning.TheVariants as meaning
-use Rattle.c_types.specs.declared.scope.Returned.{Returned}
-use Rattle.c_types.specs.declared.scope.Returned.TheVariants as returned
 use Rattle.c_types.specs.declared.scope.Signature.{Signature}
 use Rattle.c_types.specs.declared.scope.Walk.{Walk}
 use Rattle.c_types.specs.declared.scope.Written.{Written}
 use Rattle.c_types.specs.declared.scope.Written.TheVariants.{Good, Bad}
-use Rattle.c_types.specs.Calls.{main_name, is_main, callee_defined, callee_as, callee_by, callee_of}
 use Rattle.c_types.specs.Fits.{fault, unless}
-use Rattle.c_types.specs.Functions.{result_faults, same_types, entry, with_signature, new_function, differs, body_again, again_faults, noted_again, marked, with_body, function_as, function_by, is_main_head, main_faults, function_named, walked_heading, walked_param, with_slot, no_value, brace_of, result_or_none, with_fun, walked_fun}
+use Rattle.c_types.specs.Functions.{result_faults, same_types, entry, new_function, differs, body_again, again_faults, noted_again, marked, with_body, function_as, function_by, main_faults, function_named, walked_heading, walked_param, result_or_none}
 use Rattle.c_types.specs.InTurn.{each}
-use Rattle.c_types.specs.Program.{with_definition, definition_named, with_top, definitions, start, walked_top, walked_from, walked, made_program, main_of, IsProgram}
-use Rattle.c_types.specs.Scopes.{tagged_by, alias_by, based, written, declared, noted, with_scope, with_name, or_int, type_faults, text_or_none, word_or, naming, spec_type, result_type}
+use Rattle.c_types.specs.Scopes.{tagged_by, alias_by, based, written, declared, noted, with_scope, or_int, type_faults, spec_type, result_type}
 use Rattle.c_types.specs.Tables.{found, same_name, place_of}
 use Rattle.c_types.proofs.Growing.{each_grows, declared_grows, declared_type}
 use Rattle.c_types.proofs.Numbering.{first_empty}
 use Rattle.c_types.proofs.NumberingCalls.{second_empty}
-use Rattle.c_types.proofs.Passing.{Passed, Passes, no_home, note_passes, by_passes, named_passes, specs_grow, fun_passes, returned_there, params_grow, inside_grows, own_names, named_more, own_local, passes_all, tops_pass, top_passes, start_stands, heading_typed, types_of, head_types, types_grow, types_good, new_passes, again_passes, heading_passes, headed, with_params, inside, left, slotted, made_of, finished, definition_passes, headed_left, slot_passes}
-use Rattle.c_types.proofs.NumberingLeaves.{gap_numbers, gap_count}
-use Rattle.c_types.proofs.NumberingTops.{gap_tops, heading_quiet, struct_quiet, globals_quiet, slot_quiet}
-use Rattle.c_types.proofs.Rows.{get_first, get_last, get_set_here, get_either, get_one, get_none, get_set, found_first}
-use Rattle.c_types.proofs.Standing.{result_more, closed_onward, type_in, type_more, Means, Standing, Grows, Remembers, remembers_all, remembers_both, grows_remember, Onward, onward_all, onward_both, grows_onward, HasTypes}
+use Rattle.c_types.proofs.Passing.{no_home, note_passes, by_passes, named_passes, specs_grow, heading_typed, types_of, head_types, types_grow, types_good}
+use Rattle.c_types.proofs.Rows.{get_last, get_set_here, found_first}
+use Rattle.c_types.proofs.Standing.{type_in, type_more, Means, Standing, Grows, Remembers, remembers_all, remembers_both, grows_remember, Onward}
 
 -- names
 
@@ -221,7 +201,7 @@ twice_headed n result params k e w named means (Some g) is below clean =
         let same : f ≡ g = cc in
         let none : again_faults true (good result params) g n.at ≡ [] = second_empty w.faults (again_faults true (good result params) g n.at) clean in
         let alike : same_types (record { result = result; params = params; has_body = false }) g ≡ true =
-            clean_unless (same_types (record { result = result; params = params; has_body = false }) g) rule.DeclarationsDiffer n.at (second_empty (body_again true g n.at) (differs (good result params) g n.at) none) in
+        clean_unless (same_types (record { result = result; params = params; has_body = false }) g) rule.DeclarationsDiffer n.at (second_empty (body_again true g n.at) (differs (good result params) g n.at) none) in
         let parts = and_parts (option_alike same_ty result g.result) (pointwise same_ty params g.params) alike in
         record {
           entry = e;
@@ -373,4 +353,4 @@ param_types f (d ∷ ds) w v clean m =
     let here : type_in ps.0.vars (length v.vars) ≡ Some (or_int r.1) = ap (λ (vs : List VarDef). type_in vs (length v.vars)) l.vars ∙ type_more x.vars l.more_vars (length v.vars) (or_int r.1) first in
     ap (λ (o : Option Ty). o ∷ map (type_in ps.0.vars) ps.1) here
     ∙ ap (λ (os : List (Option Ty)). Some (or_int r.1) ∷ os)
-      (param_types f ds u x (second_empty (type_faults r.1) (flat_map type_faults ts.1) clean) (remembers_both (with_scope u ts.0) v x m (grows_remember (home.Param f) v x g)))
+    (param_types f ds u x (second_empty (type_faults r.1) (flat_map type_faults ts.1) clean) (remembers_both (with_scope u ts.0) v x m (grows_remember (home.Param f) v x g)))

@@ -7,7 +7,6 @@ mod CallTables
 pub mod FaultLemmas
 mod FlowLaws
 mod FunctionLaws
-pub mod FunctionRules
 mod InTurnLaws
 mod JudgedLaws
 mod Live

@@ -1,5 +1,5 @@
 -- Each declaration of a file goes on, and keeps what stands.
-use Rattle.std.proofs.Common.{◌≡◌, ℕ, ◌+◌, ◌<◌, ◌≤◌, ◌==◌, Bool, true, false, ◌&&◌, List, [], ◌∷◌, ◌++◌, length, map, flat_map, get_or, slice_get, Option, Some, None, option_map, refl, sym, ap, subst, ◌∙◌, arith, append-nil, append_assoc, length-append}
+use Rattle.std.proofs.Common.{◌≡◌, ℕ, ◌+◌, ◌<◌, ◌≤◌, ◌==◌, Bool, true, false, ◌&&◌, List, [], ◌∷◌, ◌++◌, length, map, flat_map, get_or, slice_get, Option, Some, None, refl, sym, ap, subst, ◌∙◌, arith, append-nil, append_assoc, length-append}
 use Rattle.std.specs.Prelude.{nat_lt, slice_set, is_none, if◌then◌else◌}
 use Rattle.std.specs.List.{fold, list_all}
 use Rattle.std.proofs.lemmas.List.{length-set}
@@ -32,7 +32,6 @@ use Rattle.c_types.specs.declared.scope.Meaning.{Meaning}
 use Rattle.c_types.specs.declared.scope.Meaning.TheVariants as meaning
 use Rattle.c_types.specs.declared.scope.Returned.{Returned}
 use Rattle.c_types.specs.declared.scope.Returned.TheVariants as returned
-use Rattle.c_types.specs.declared.scope.Scope.{Scope}
 use Rattle.c_types.specs.declared.scope.Signature.{Signature}
 use Rattle.c_types.specs.declared.scope.StructRow.{StructRow}
 use Rattle.c_types.specs.declared.scope.Walk.{Walk}
@@ -41,10 +40,10 @@ use Rattle.c_types.specs.declared.scope.Written.TheVariants.{Good, Bad}
 use Rattle.c_types.specs.Blocks.{walked_block}
 use Rattle.c_types.specs.Calls.{is_main}
 use Rattle.c_types.specs.Fits.{fault, unless}
-use Rattle.c_types.specs.Functions.{heading_params, heading_of, result_faults, entry, with_signature, new_function, again_faults, noted_again, marked, with_body, function_as, function_by, main_faults, function_named, walked_heading, body_nesting, walked_param, slot_of, with_slot, no_value, result_or_none, brace_of, fun_of, with_fun, walked_fun, walked_proto}
+use Rattle.c_types.specs.Functions.{heading_params, heading_of, result_faults, entry, with_signature, new_function, again_faults, noted_again, marked, with_body, function_as, function_by, main_faults, function_named, walked_heading, body_nesting, walked_param, slot_of, with_slot, no_value, result_or_none, brace_of, fun_of, with_fun, walked_fun}
 use Rattle.c_types.specs.InTurn.{each}
 use Rattle.c_types.specs.Program.{start, walked_top}
-use Rattle.c_types.specs.Scopes.{new_struct, naming, untagged, based, written, spec_type, value_or_bad, result_of, result_type, noted, with_scope, with_name, named_by, or_int, with_var, declared, closed, type_faults, text_or_none}
+use Rattle.c_types.specs.Scopes.{new_struct, naming, untagged, based, written, spec_type, value_or_bad, result_of, result_type, noted, with_scope, with_name, named_by, or_int, declared, closed, type_faults, text_or_none}
 use Rattle.c_types.specs.Structs.{Fields, field_more, field_named, walked_field, field_turn, walked_fields, with_row, row_again, walked_body, body_if, alias_if, numbered, walked_struct, start_number, start_noted, walked_global}
 use Rattle.c_types.specs.Tables.{found}
 use Rattle.c_types.proofs.Growing.{note_grows, struct_more, var_stands, base_grows, spec_grows, BaseThere, base_there, tag_there, tag_grows, written_there, spec_there, declared_grows, each_grows, block_grows}
@@ -149,9 +148,9 @@ mark_passes k (Some g) w is s = record {
     definitions = refl;
     signatures = λ j x has. get_set (HasTypes x) w.signatures k (record g { has_body = true }) j x has (record { same = x; is = refl; result = refl; params = refl; has_body = λ b. b })
         (λ e.
-          let same : Some g ≡ Some x = sym is ∙ ap (slice_get w.signatures) (sym e) ∙ has in
-          let one : g ≡ x = cc in
-          record { same = record g { has_body = true }; is = refl; result = ap (λ (s : Signature). s.result) one; params = ap (λ (s : Signature). s.params) one; has_body = λ b. refl });
+        let same : Some g ≡ Some x = sym is ∙ ap (slice_get w.signatures) (sym e) ∙ has in
+        let one : g ≡ x = cc in
+        record { same = record g { has_body = true }; is = refl; result = ap (λ (s : Signature). s.result) one; params = ap (λ (s : Signature). s.params) one; has_body = λ b. refl });
     functions = λ m x j is mean. is;
   };
   standing = record {
@@ -364,9 +363,9 @@ row_set n row w types open_so_far s =
         structs = omega arith;
         bodies = λ c k old at is has. get_set (λ (o : Option StructRow). o ≡ Some old) w.scope.structs n row k old is refl
             (λ e.
-              let none : old.body ≡ None = open_so_far c old (ap (slice_get w.scope.structs) (sym e) ∙ is) in
-              let two : None ≡ Some at = sym none ∙ has in
-              absurd cc);
+            let none : old.body ≡ None = open_so_far c old (ap (slice_get w.scope.structs) (sym e) ∙ is) in
+            let two : None ≡ Some at = sym none ∙ has in
+            absurd cc);
         definitions = refl;
         signatures = λ k g is. record { same = g; is = is; result = refl; params = refl; has_body = λ b. b };
         functions = λ m x k is mean. is;
@@ -415,11 +414,11 @@ body_passes_on tag n b w below fresh s =
     let here : slice_get w.scope.structs n ≡ Some first = slice_get-get_or w.scope.structs n new_struct below in
     passes_both w v.0 (walked_body tag n b w) (passes_both w u v.0 (note_passes fs w) (grows_pass no_home u v.0 g))
     (row_passes n (record { fields = v.1; body = Some b.at }) v.0 (fields_there_all b.fields (u, []) noting.standing refl)
-      (λ c old is.
-        let there_still : slice_get v.0.scope.structs n ≡ Some first = ap (λ (xs : List StructRow). slice_get xs n) g.structs ∙ get_first w.scope.structs g.more_structs n first here in
-        let two : Some first ≡ Some old = sym there_still ∙ is in
-        let same : first ≡ old = cc in
-        subst (λ (r : StructRow). r.body ≡ None) same (no_body (slice_get w.scope.structs n) tag fresh (second_empty w.faults fs (g.clean c)) first here)))
+    (λ c old is.
+    let there_still : slice_get v.0.scope.structs n ≡ Some first = ap (λ (xs : List StructRow). slice_get xs n) g.structs ∙ get_first w.scope.structs g.more_structs n first here in
+    let two : Some first ≡ Some old = sym there_still ∙ is in
+    let same : first ≡ old = cc in
+    subst (λ (r : StructRow). r.body ≡ None) same (no_body (slice_get w.scope.structs n) tag fresh (second_empty w.faults fs (g.clean c)) first here)))
     s
 
 body_if_passes : (tag : Option Word) (n : ℕ) (o : Option Body) (w : Walk) → n < length w.scope.structs → IsFresh tag n w → Passes w (body_if tag n o w)

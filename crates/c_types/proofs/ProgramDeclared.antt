@@ -1,14 +1,11 @@
 -- A text's program declares its variables in the order of their numbers, and each stands where it is visible.
-use Rattle.std.proofs.Common.{◌≡◌, ℕ, zero, suc, ◌+◌, Bool, true, false, ◌||◌, ℤ, List, [], ◌∷◌, ◌++◌, length, map, flat_map, slice_get, Option, Some, None, option_map, refl, sym, ap, subst, ◌∙◌, nat_eq, arith, append-nil, append_assoc, length-append}
-use Rattle.std.specs.Prelude.{IsTrue, nat_lt, slice_set, is_some, if◌then◌else◌}
+use Rattle.std.proofs.Common.{◌≡◌, ℕ, suc, ◌+◌, Bool, true, false, ◌||◌, ℤ, List, [], ◌∷◌, ◌++◌, length, map, flat_map, slice_get, Option, Some, None, refl, sym, ap, subst, ◌∙◌, nat_eq, arith, append-nil, append_assoc, length-append}
+use Rattle.std.specs.Prelude.{nat_lt, slice_set, is_some, if◌then◌else◌}
 use Rattle.std.specs.List.{fold, range_with_len}
 use Rattle.std.specs.Set.{is_member}
 use Rattle.std.proofs.lemmas.List.{map-append, map-id, length-map}
 use Rattle.std.proofs.lemmas.List.FromFn.{length-range_with_len}
-use Rattle.c_tree.specs.Fill.{regapped_block}
-use Rattle.c_tree.specs.Flow.{flow_of}
-use Rattle.c_tree.specs.Numbers.{Numbers, from_all, from_last, start_locals, item_locals, arm_locals, block_locals, piece_locals, locals_in, Own, result_home, own_of, owns_from, Declares, nothing, a_global, a_function}
-use Rattle.c_tree.specs.Scopes.{block_scope, sees_all}
+use Rattle.c_tree.specs.Numbers.{Numbers, from_all, start_locals, item_locals, arm_locals, block_locals, piece_locals, locals_in, Own, result_home, own_of, owns_from, Declares, nothing, a_global, a_function}
 use Rattle.c_tree.specs.declared.program.Block.{Block as MadeBlock}
 use Rattle.c_tree.specs.declared.program.Declr.{Declr as MadeDeclr}
 use Rattle.c_tree.specs.declared.program.FunDef.{FunDef}
@@ -32,7 +29,7 @@ use Rattle.c_tree.specs.declared.tree.Top.TheVariants as top
 use Rattle.c_tree.specs.declared.tree.Tree.{Tree}
 use Rattle.c_tree.specs.declared.tree.Word.{Word}
 use Rattle.c_tree.proofs.Fills.{kept_block}
-use Rattle.c_tree.proofs.RegappedFolds.{Algebra, Leads, LeadsOn, led_item, fold_led}
+use Rattle.c_tree.proofs.RegappedFolds.{Algebra, Leads, led_item, fold_led}
 use Rattle.c_types.specs.declared.faults.Fault.{Fault}
 use Rattle.c_types.specs.declared.scope.Entry.{Entry}
 use Rattle.c_types.specs.declared.scope.Heading.{Heading}
@@ -46,19 +43,18 @@ use Rattle.c_types.specs.declared.scope.Signature.{Signature}
 use Rattle.c_types.specs.declared.scope.StructRow.{StructRow}
 use Rattle.c_types.specs.declared.scope.Walk.{Walk}
 use Rattle.c_types.specs.declared.scope.Written.{Written}
-use Rattle.c_types.specs.Calls.{is_main}
-use Rattle.c_types.specs.Functions.{result_faults, heading_of, entry, new_function, again_faults, noted_again, marked, with_body, function_as, function_by, main_faults, function_named, walked_heading, body_nesting, walked_param, slot_of, with_slot, no_value, brace_of, result_or_none, walked_fun, walked_proto}
+use Rattle.c_types.specs.Functions.{result_faults, heading_of, entry, new_function, again_faults, noted_again, marked, with_body, function_as, function_by, main_faults, function_named, walked_heading, body_nesting, walked_param, slot_of, with_slot, brace_of, result_or_none, walked_fun, walked_proto}
 use Rattle.c_types.specs.InTurn.{each}
 use Rattle.c_types.specs.Program.{start, walked_top, walked, definitions, IsProgram}
-use Rattle.c_types.specs.Scopes.{spec_type, result_type, noted, with_scope, with_name, named_by, named_if, variable_meaning, var_of, with_var, declared, type_faults, text_or_none, tagged_by}
+use Rattle.c_types.specs.Scopes.{spec_type, result_type, noted, with_scope, with_name, named_by, named_if, variable_meaning, var_of, with_var, declared, type_faults}
 use Rattle.c_types.specs.Structs.{Fields, field_more, field_named, walked_field, field_turn, walked_fields, with_row, row_again, walked_body, body_if, alias_if, numbered, walked_struct, start_number, start_noted, walked_global}
 use Rattle.c_types.specs.Tables.{found}
-use Rattle.c_types.proofs.Functionwise.{At, by_tops, definition_funs, left_clean}
+use Rattle.c_types.proofs.Functionwise.{by_tops, definition_funs, left_clean}
 use Rattle.c_types.proofs.Growing.{declared_grows}
-use Rattle.c_types.proofs.Numbering.{Gives, range_joined, of_start, of_head, of_item, of_arm, of_block, of_piece, of_any, in_block, block_numbers}
+use Rattle.c_types.proofs.Numbering.{Gives, range_joined, of_start, of_item, of_arm, of_block, of_piece, of_any, in_block, block_numbers}
 use Rattle.c_types.proofs.NumberingLeaves.{gap_numbers, gap_count, var_numbers, var_count, vars_lawful}
-use Rattle.c_types.proofs.NumberingTops.{gap_tops, heading_quiet, struct_quiet, globals_quiet}
-use Rattle.c_types.proofs.Passing.{headed, with_params, inside, left, slotted, made_of, params_grow, inside_grows, own_names, named_more}
+use Rattle.c_types.proofs.NumberingTops.{gap_tops, heading_quiet, struct_quiet}
+use Rattle.c_types.proofs.Passing.{headed, with_params, inside, left, made_of, params_grow, inside_grows, own_names, named_more}
 use Rattle.c_types.proofs.Rows.{found_one, found_either}
 use Rattle.c_types.proofs.Standing.{left_names}
 use Rattle.c_types.proofs.Visible.{Covers, covers_on, based_names, tagged_names}
@@ -299,7 +295,7 @@ quiet_upto w u q funs s = record {
   so_far = λ owns homes d.
       subst (λ (ds : List FunDef). Declares 0 [] (owns_from 0 ds ++ owns) (map (λ (v : VarDef). v.home) u.vars ++ homes)) (sym funs)
       (subst (λ (vs : List VarDef). Declares 0 [] (owns_from 0 w.funs ++ owns) (map (λ (v : VarDef). v.home) vs ++ homes)) (sym q.vars)
-        (s.so_far owns homes (subst (λ (vs : List VarDef). Declares (length vs) s.globals owns homes) q.vars d)));
+      (s.so_far owns homes (subst (λ (vs : List VarDef). Declares (length vs) s.globals owns homes) q.vars d)));
   covers = q.covers s.globals s.covers;
 }
 
@@ -324,8 +320,8 @@ global_declared d n w s =
       so_far = λ owns homes rest.
           let first = s.so_far owns (h ∷ homes) (a_global n (subst (λ (k : ℕ). Declares k (length w.vars ∷ s.globals) owns homes) long rest)) in
           let same : map (λ (v : VarDef). v.home) u.vars ++ homes ≡ map (λ (v : VarDef). v.home) w.vars ++ h ∷ homes =
-              ap (λ (vs : List VarDef). map (λ (v : VarDef). v.home) vs ++ homes) vars ∙ ap (λ (hs : List Home). hs ++ homes) (map-append (λ (v : VarDef). v.home) w.vars (v ∷ []))
-              ∙ append_assoc (map (λ (v : VarDef). v.home) w.vars) (h ∷ []) homes in
+          ap (λ (vs : List VarDef). map (λ (v : VarDef). v.home) vs ++ homes) vars ∙ ap (λ (hs : List Home). hs ++ homes) (map-append (λ (v : VarDef). v.home) w.vars (v ∷ []))
+          ∙ append_assoc (map (λ (v : VarDef). v.home) w.vars) (h ∷ []) homes in
           subst (λ (ds : List FunDef). Declares 0 [] (owns_from 0 ds ++ owns) (map (λ (v : VarDef). v.home) u.vars ++ homes)) (sym (declared_grows d h 0 w).funs)
           (subst (Declares 0 [] (owns_from 0 w.funs ++ owns)) (sym same) first);
       covers = declared_covers d h 0 w s.globals s.covers;
@@ -465,7 +461,7 @@ module _ (h : Head) (body : Block) (w : Walk) (clean : (walked_fun h body w).fau
   own_sees : (globals : List ℕ) → Covers w.scope globals → own.sees globals ≡ true
   own_sees globals covers =
       ap is_some (block_sees body (body_nesting place (headed h body w).1) (with_params h body w).0 ((with_params h body w).1 ++ globals)
-        (params_cover place h.params (headed h body w).0 globals (quiet.covers globals covers)))
+      (params_cover place h.params (headed h body w).0 globals (quiet.covers globals covers)))
 
   names_left : (walked_fun h body w).scope.names ≡ (headed h body w).0.scope.names
   names_left =
@@ -484,9 +480,9 @@ module _ (h : Head) (body : Block) (w : Walk) (clean : (walked_fun h body w).fau
         let step = a_function own own_numbers (own_sees s.globals s.covers) (subst (λ (k : ℕ). Declares k s.globals owns homes) all_count d) in
         let first = s.so_far (own ∷ owns) (own.homes ++ homes) step in
         let same_owns : owns_from 0 (walked_fun h body w).funs ++ owns ≡ owns_from 0 w.funs ++ own ∷ owns =
-            ap (λ (xs : List Own). xs ++ owns) owns_here ∙ append_assoc (owns_from 0 w.funs) (own ∷ []) owns in
+        ap (λ (xs : List Own). xs ++ owns) owns_here ∙ append_assoc (owns_from 0 w.funs) (own ∷ []) owns in
         let same_homes : map (λ (v : VarDef). v.home) (walked_fun h body w).vars ++ homes ≡ map (λ (v : VarDef). v.home) w.vars ++ (own.homes ++ homes) =
-            ap (λ (hs : List Home). hs ++ homes) all_homed ∙ append_assoc (map (λ (v : VarDef). v.home) w.vars) own.homes homes in
+        ap (λ (hs : List Home). hs ++ homes) all_homed ∙ append_assoc (map (λ (v : VarDef). v.home) w.vars) own.homes homes in
         subst (λ (xs : List Own). Declares 0 [] xs (map (λ (v : VarDef). v.home) (walked_fun h body w).vars ++ homes)) (sym same_owns)
         (subst (Declares 0 [] (owns_from 0 w.funs ++ own ∷ owns)) (sym same_homes) first);
     covers = covers_on (headed h body w).0.scope (walked_fun h body w).scope s.globals names_left (quiet.covers s.globals s.covers);
@@ -511,4 +507,4 @@ program_declared t p is =
     let all = upto.so_far [] [] nothing in
     subst (λ (q : Program). Declares 0 [] (owns_from 0 q.funs) (map (λ (v : VarDef). v.home) q.vars)) (sym is.made)
     (subst (λ (hs : List Home). Declares 0 [] (owns_from 0 u.funs) hs) (append-nil (map (λ (v : VarDef). v.home) u.vars))
-      (subst (λ (xs : List Own). Declares 0 [] xs (map (λ (v : VarDef). v.home) u.vars ++ [])) (append-nil (owns_from 0 u.funs)) all))
+    (subst (λ (xs : List Own). Declares 0 [] xs (map (λ (v : VarDef). v.home) u.vars ++ [])) (append-nil (owns_from 0 u.funs)) all))

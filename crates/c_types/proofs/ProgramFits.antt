@@ -8,10 +8,9 @@ use Rattle.c_tree.specs.declared.tree.Tree.{Tree}
 use Rattle.c_types.specs.Offsets.{FitsText}
 use Rattle.c_types.specs.Program.{IsProgram, IsAnswer}
 use Rattle.c_types.specs.declared.refusal.TypeRefusal.{TypeRefusal}
-use Rattle.c_types.proofs.FunctionRules.{program_jumps}
 use Rattle.c_types.proofs.NumberingTops.{program_gaps, program_calls}
 use Rattle.c_types.proofs.ProgramDeclared.{program_declared}
-use Rattle.c_types.proofs.ProgramRules.{program_main, program_structs, program_results, program_values}
+use Rattle.c_types.proofs.ProgramRules.{program_main, program_structs, program_results, program_jumps, program_values}
 use Rattle.c_types.proofs.ProgramVariables.{program_variables}
 use Rattle.c_types.proofs.TypedPrograms.{program_typed, program_frees}
 

@@ -1,5 +1,6 @@
--- What a text's program declares: its main, and the types of its structs, its results and its variables.
-use Rattle.std.proofs.Common.{◌≡◌, ℕ, suc, ◌+◌, ◌<◌, ◌==◌, Bool, true, false, ◌&&◌, ◌||◌, ℤ, pos, negsuc, List, [], ◌∷◌, ◌++◌, length, map, slice_get, Option, Some, None, option_map, refl, sym, ap, subst, ◌∙◌, arith, append_assoc}
+-- What a text's program declares, and the rules that each of its functions keeps: main has its type, the types of structs and
+-- results exist, jumps stand in loops, and a value is given.
+use Rattle.std.proofs.Common.{◌≡◌, ℕ, suc, ◌+◌, ◌==◌, Bool, true, false, ◌&&◌, ◌||◌, List, [], ◌∷◌, length, slice_get, Option, Some, None, option_map, refl, sym, ap, ◌∙◌}
 use Rattle.std.specs.Prelude.{IsTrue, not, if◌then◌else◌}
 use Rattle.std.specs.Cmp.Lexicographic.{bytes_decides}
 use Rattle.std.specs.List.{list_all}
@@ -9,12 +10,11 @@ use Rattle.std.proofs.lemmas.List.Folds.{list_all-map}
 use Rattle.std.proofs.lemmas.Option.{slice_get-map}
 use Rattle.c_tree.specs.AlikeTest.{same_ty}
 use Rattle.c_tree.specs.Flow.{flow_of}
-use Rattle.c_tree.specs.Typing.{Prototype, Declarations, prototype, declarations, has, if_any}
-use Rattle.c_tree.specs.WellFormed.{each_from, each_function, type_exists, struct_fits, result_exists, gives_value, is_main as is_main_type}
+use Rattle.c_tree.specs.Typing.{prototype, declarations, has, if_any}
+use Rattle.c_tree.specs.WellFormed.{each_from, each_function, type_exists, struct_fits, result_exists, gives_value, jumps_in_loops, is_main as is_main_type}
 use Rattle.c_tree.specs.declared.program.FieldDef.{FieldDef}
 use Rattle.c_tree.specs.declared.program.FunDef.{FunDef}
 use Rattle.c_tree.specs.declared.program.Program.{Program}
-use Rattle.c_tree.specs.declared.program.StructDef.{StructDef}
 use Rattle.c_tree.specs.declared.program.Ty.{Ty}
 use Rattle.c_tree.specs.declared.program.Ty.TheVariants as ty
 use Rattle.c_tree.specs.declared.tree.Base.{Base}
@@ -31,13 +31,13 @@ use Rattle.c_types.specs.declared.scope.StructRow.{StructRow}
 use Rattle.c_types.specs.declared.scope.Walk.{Walk}
 use Rattle.c_types.specs.declared.scope.Written.{Written}
 use Rattle.c_types.specs.Calls.{main_name, is_main}
-use Rattle.c_types.specs.Functions.{is_int_base, is_main_head, main_faults, no_value, result_or_none, brace_of, walked_fun, walked_param}
+use Rattle.c_types.specs.Functions.{is_int_base, is_main_head, no_value, result_or_none, brace_of, body_nesting, walked_param}
 use Rattle.c_types.specs.InTurn.{each}
-use Rattle.c_types.specs.Program.{walked, definitions, main_of, IsProgram, field_def, struct_def}
-use Rattle.c_types.specs.Scopes.{or_int, based, value_type, good_type, written, value_or_bad, result_of, text_or_none}
-use Rattle.c_types.proofs.FunctionRules.{from_all_functions}
-use Rattle.c_types.proofs.Functionwise.{Before, by_definitions, rule_at, at_end, all_sofar, headed_clean}
+use Rattle.c_types.specs.Program.{walked, definitions, IsProgram, field_def, struct_def}
+use Rattle.c_types.specs.Scopes.{or_int, based, good_type, value_or_bad, result_of, text_or_none}
+use Rattle.c_types.proofs.Functionwise.{Before, by_definitions, rule_at, at_end, all_sofar, headed_clean, left_clean}
 use Rattle.c_types.proofs.Headings.{clean_unless, definition_heads}
+use Rattle.c_types.proofs.LooseJumps.{no_loose_jump}
 use Rattle.c_types.proofs.NumberingCalls.{second_empty}
 use Rattle.c_types.proofs.Passing.{headed, with_params, inside, slotted, made_of}
 use Rattle.c_types.proofs.Rows.{all_weaker}
@@ -62,8 +62,8 @@ pub program_structs : (t : Tree) (p : Program) → IsProgram t p → IsTrue (lis
 program_structs t p is =
     let n = length (walked t).scope.structs in
     let one = λ (row : StructRow) (h : fields_there n row ≡ true).
-        list_all-map (λ (f : FieldDef). type_exists (declarations p) f.ty) field_def row.fields
-        ∙ all_weaker (λ (f : List ℕ × Written). there n (or_int f.1)) (λ (f : List ℕ × Written). type_exists (declarations p) (or_int f.1)) (λ f. type_known t p is (or_int f.1)) row.fields h in
+    list_all-map (λ (f : FieldDef). type_exists (declarations p) f.ty) field_def row.fields
+    ∙ all_weaker (λ (f : List ℕ × Written). there n (or_int f.1)) (λ (f : List ℕ × Written). type_exists (declarations p) (or_int f.1)) (λ f. type_known t p is (or_int f.1)) row.fields h in
     ap (λ (q : Program). list_all (struct_fits (declarations p)) q.structs) is.made
     ∙ list_all-map (struct_fits (declarations p)) struct_def (walked t).scope.structs
     ∙ all_weaker (fields_there n) (λ (row : StructRow). struct_fits (declarations p) (struct_def row)) one (walked t).scope.structs (all_sofar t is.clean).standing.fields
@@ -72,10 +72,16 @@ result_known : (t : Tree) (p : Program) → IsProgram t p → (o : Option Ty) �
 result_known t p is None h = refl
 result_known t p is (Some u) h = type_known t p is u h
 
+all_keep : (keeps : FunDef → Bool) (f : ℕ) (ds : List FunDef) → list_all keeps ds ≡ true → each_from (λ k d. keeps d) f ds ≡ true
+all_keep keeps f [] h = refl
+all_keep keeps f (d ∷ ds) h =
+    let parts = and_parts (keeps d) (list_all keeps ds) h in
+    ap (λ (b : Bool). b && each_from (λ k d. keeps d) (f + 1) ds) parts.0 ∙ all_keep keeps (f + 1) ds parts.1
+
 -- the structs that types of results name exist
 pub program_results : (t : Tree) (p : Program) → IsProgram t p → IsTrue (each_function (λ f d. result_exists (declarations p) d) p)
 program_results t p is =
-    from_all_functions (result_exists (declarations p)) 0 p.funs
+    all_keep (result_exists (declarations p)) 0 p.funs
     (ap (λ (q : Program). list_all (result_exists (declarations p)) q.funs) is.made
     ∙ all_weaker (λ (d : FunDef). if_any (there (length (walked t).scope.structs)) d.result) (result_exists (declarations p)) (λ d. result_known t p is d.result) (walked t).funs (all_sofar t is.clean).standing.results)
 
@@ -126,6 +132,16 @@ program_main t p is =
     let name : is_main e.fun.name ≡ true = (bytes_decides e.fun.name main_name).1 (sym e.name) in
     ap (has is_main_type) (slice_get-map prototype p.funs p.main ∙ ap (option_map prototype) here)
     ∙ or_false (is_main e.fun.name) (is_main_type (prototype e.fun)) kept name
+
+-- jumps
+
+jumps_kept : (t : Tree) (h : Head) (body : Block) (w : Walk) → Before t h body w → jumps_in_loops (made_of h body w) ≡ true
+jumps_kept t h body w b =
+    ap not (no_loose_jump body (body_nesting (length w.funs) (headed h body w).1) (with_params h body w).0 refl (left_clean h body w b.clean))
+
+-- in a text's program `break` and `continue` stand in loops
+pub program_jumps : (t : Tree) (p : Program) → IsProgram t p → IsTrue (each_function (λ f d. jumps_in_loops d) p)
+program_jumps t p is = by_definitions t p is (λ f d. jumps_in_loops d) (jumps_kept t)
 
 -- values
 

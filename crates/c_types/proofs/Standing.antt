@@ -1,5 +1,5 @@
 -- What the names at a place of the text stand for, and what a walk keeps of it on its way.
-use Rattle.std.proofs.Common.{◌≡◌, ℕ, ◌+◌, ◌<◌, ◌≤◌, Bool, true, List, [], ◌∷◌, ◌++◌, length, take, slice_get, Option, Some, None, option_map, refl, sym, ap, subst, ◌∙◌, arith, append-nil, append_assoc, length-append}
+use Rattle.std.proofs.Common.{◌≡◌, ℕ, ◌+◌, ◌<◌, ◌≤◌, Bool, true, List, [], ◌++◌, length, take, slice_get, Option, Some, None, option_map, refl, sym, ap, subst, ◌∙◌, arith, append-nil, append_assoc, length-append}
 use Rattle.std.specs.Prelude.{nat_lt}
 use Rattle.std.specs.List.{list_all}
 use Rattle.std.proofs.Math.Seq.{take-append_seam}
@@ -7,7 +7,6 @@ use Rattle.std.proofs.lemmas.Bool.{ltb-true, lt-ltb}
 use Rattle.c_tree.specs.Typing.{if_any}
 use Rattle.c_tree.specs.declared.program.FunDef.{FunDef}
 use Rattle.c_tree.specs.declared.program.Home.{Home}
-use Rattle.c_tree.specs.declared.program.Home.TheVariants as home
 use Rattle.c_tree.specs.declared.program.Ty.{Ty}
 use Rattle.c_tree.specs.declared.program.Ty.TheVariants as ty
 use Rattle.c_tree.specs.declared.program.VarDef.{VarDef}
@@ -265,8 +264,8 @@ closed_onward w u more names locals = record {
   functions = λ n e k is means.
       ap (λ (xs : List (List ℕ × Entry)). found xs n) (left_names w u more names)
       ∙ found_either (λ (e : Entry). e.meaning ≡ meaning.Function k → found w.scope.names n ≡ Some e) w.scope.names more n
-        (λ e h m. h) (λ e h m. absurd (never_local k e.meaning m (locals n e h))) e
-        (sym (ap (λ (xs : List (List ℕ × Entry)). found xs n) names) ∙ is) means;
+      (λ e h m. h) (λ e h m. absurd (never_local k e.meaning m (locals n e h))) e
+      (sym (ap (λ (xs : List (List ℕ × Entry)). found xs n) names) ∙ is) means;
 }
 
 pub closes_onward : (h : Home) (w u : Walk) → Grows h w u → Onward u (closed (length w.scope.names) u)

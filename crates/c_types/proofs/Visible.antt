@@ -1,12 +1,12 @@
 -- The variables that stand in what a walk makes of expressions, calls and statements are visible there.
-use Rattle.std.proofs.Common.{◌≡◌, ℕ, ◌+◌, ◌==◌, Bool, true, false, ◌&&◌, ◌||◌, List, [], ◌∷◌, ◌++◌, length, map, flat_map, slice_get, Option, Some, None, refl, sym, ap, subst, ◌∙◌, nat_eq}
+use Rattle.std.proofs.Common.{◌≡◌, ℕ, ◌+◌, Bool, true, false, ◌&&◌, List, [], ◌∷◌, ◌++◌, flat_map, slice_get, Option, Some, None, refl, sym, ap, subst, ◌∙◌, nat_eq}
 use Rattle.std.specs.Prelude.{pos, replicate, if◌then◌else◌}
-use Rattle.std.specs.List.{list_all, list_any}
+use Rattle.std.specs.List.{list_all}
 use Rattle.std.specs.Ordering.{int_eq}
 use Rattle.std.specs.Set.{is_member}
 use Rattle.std.proofs.lemmas.Bool.{and_parts}
-use Rattle.c_tree.specs.Scopes.{vars_layer, vars_of, any_vars, size_vars, call_vars, right_vars, simple_vars}
-use Rattle.c_tree.specs.declared.expr.Expr.{Expr as Made, Expr-F as Made-F, roll-Expr as roll-Made, out-Expr as out-Made, fold-Expr as fold-Made, fold-roll-Expr as fold-roll-Made, map-Expr as map-Made}
+use Rattle.c_tree.specs.Scopes.{vars_layer, vars_of, call_vars, right_vars, simple_vars}
+use Rattle.c_tree.specs.declared.expr.Expr.{Expr as Made, Expr-F as Made-F, roll-Expr as roll-Made, out-Expr as out-Made, fold-roll-Expr as fold-roll-Made, map-Expr as map-Made}
 use Rattle.c_tree.specs.declared.expr.Expr.TheOpen as layer
 use Rattle.c_tree.specs.declared.expr.Expr.TheVariants as expr
 use Rattle.c_tree.specs.declared.expr.Oper.{Oper}
@@ -14,10 +14,7 @@ use Rattle.c_tree.specs.declared.expr.Oper.TheVariants as oper
 use Rattle.c_tree.specs.declared.expr.Sign.{Sign}
 use Rattle.c_tree.specs.declared.expr.Sign.TheVariants as sign
 use Rattle.c_tree.specs.declared.program.Call.{Call as MadeCall}
-use Rattle.c_tree.specs.declared.program.Call.TheVariants as made
-use Rattle.c_tree.specs.declared.program.Right.{Right as MadeRight}
 use Rattle.c_tree.specs.declared.program.Right.TheVariants as made_right
-use Rattle.c_tree.specs.declared.program.Simple.{Simple as MadeSimple}
 use Rattle.c_tree.specs.declared.program.Size.TheVariants as size
 use Rattle.c_tree.specs.declared.program.Ty.{Ty}
 use Rattle.c_tree.specs.declared.program.Ty.TheVariants as ty
@@ -26,7 +23,7 @@ use Rattle.c_tree.specs.declared.tree.Base.{Base}
 use Rattle.c_tree.specs.declared.tree.Base.TheVariants as base
 use Rattle.c_tree.specs.declared.tree.Call.{Call}
 use Rattle.c_tree.specs.declared.tree.Call.TheVariants as call
-use Rattle.c_tree.specs.declared.tree.Expr.{Expr, Expr-F, roll-Expr, fold-Expr, fold-roll-Expr, map-Expr, ind-Expr}
+use Rattle.c_tree.specs.declared.tree.Expr.{Expr, Expr-F, roll-Expr, fold-roll-Expr, map-Expr, ind-Expr}
 use Rattle.c_tree.specs.declared.tree.Expr.TheOpen.{Const, Null, Var, Field, Deref, Index, Unary, Binary}
 use Rattle.c_tree.specs.declared.tree.Right.{Right}
 use Rattle.c_tree.specs.declared.tree.Right.TheVariants as right
@@ -42,7 +39,6 @@ use Rattle.c_types.specs.declared.faults.Rule.TheVariants as rule
 use Rattle.c_types.specs.declared.judged.Called.{Called}
 use Rattle.c_types.specs.declared.judged.Callee.{Callee}
 use Rattle.c_types.specs.declared.judged.Callee.TheVariants as callee
-use Rattle.c_types.specs.declared.judged.Checked.{Checked}
 use Rattle.c_types.specs.declared.judged.Gives.{Gives}
 use Rattle.c_types.specs.declared.judged.Gives.TheVariants as gives
 use Rattle.c_types.specs.declared.judged.Judged.{Judged}
@@ -65,12 +61,12 @@ use Rattle.c_types.specs.declared.scope.StructRow.{StructRow}
 use Rattle.c_types.specs.declared.scope.Walk.{Walk}
 use Rattle.c_types.specs.declared.scope.Written.{Written}
 use Rattle.c_types.specs.declared.scope.Written.TheVariants.{Good, Bad}
-use Rattle.c_types.specs.Calls.{argument_by, argument, arguments_from, arguments, miscounted, callee_of, user_called, user_declared, user_by, user_call, counted, request_one, request_many, request_of, behind, cast_of, unit_measured, request, requested, directives, word_call, printed_by, printed, walked_call}
-use Rattle.c_types.specs.Expressions.{variable_as, variable_by, variable, field_by, field_in, field_of_row, field_at, field, deref, index, points_to_int, signed, computed, compared, joined, combined, under_sign, under_oper, of_int, judged_layer, judged}
-use Rattle.c_types.specs.Fits.{points, is_int, is_comparable, pointer_layer, as_pointer, converted, beside, right_for, right_of, unless}
+use Rattle.c_types.specs.Calls.{argument_by, argument, arguments_from, callee_of, user_declared, user_by, user_call, counted, request_one, request_many, request_of, behind, cast_of, unit_measured, request, requested, directives, printed_by, walked_call}
+use Rattle.c_types.specs.Expressions.{variable_as, variable_by, field_by, field_in, field_of_row, field_at, field, deref, index, points_to_int, signed, computed, compared, joined, combined, under_sign, under_oper, of_int, judged_layer, judged}
+use Rattle.c_types.specs.Fits.{points, is_int, is_comparable, pointer_layer, as_pointer, converted, beside, right_for, right_of}
 use Rattle.c_types.specs.Judged.{breaks, of_one, of_two, unless_broken, or_null, or_null_right}
-use Rattle.c_types.specs.Scopes.{tagged_by, based, spec_type}
-use Rattle.c_types.specs.Statements.{call_value, value_of_call, plain_value, walked_right, right_at, assigned, walked_simple, initial, walked_initial, returned_value, call_item}
+use Rattle.c_types.specs.Scopes.{tagged_by, based}
+use Rattle.c_types.specs.Statements.{call_value, value_of_call, plain_value, walked_right, right_at, assigned, initial, returned_value}
 use Rattle.c_types.specs.Tables.{found, place_of}
 
 -- these variables are among the visible ones
@@ -163,12 +159,15 @@ module _ (s : Scope) (seen : List ℕ) (covers : Covers s seen) where
       by_field (Some k) (Some (Bad f)) = tt
       by_field (Some k) None = tt
       by_field None p = tt
+
       by_body : (row : StructRow) (o : Option ℕ) → Shows seen (field_in v.expr w at row o)
       by_body row None = tt
       by_body row (Some b) = by_field (place_of row.fields w.text) (found row.fields w.text)
+
       by_row : (o : Option StructRow) → Shows seen (field_of_row v.expr w at o)
       by_row None = tt
       by_row (Some row) = by_body row row.body
+
       by_sort : (g : Sort) → Shows seen (field_at s w at v.expr g)
       by_sort (Of (ty.StructPtr n)) = by_row (slice_get s.structs n)
       by_sort (Of ty.Int) = tt
@@ -189,7 +188,7 @@ module _ (s : Scope) (seen : List ℕ) (covers : Covers s seen) where
   index_shows at v i h g =
       if_shows (points_to_int v.sort) (if is_int i.sort then of_int (expr.Index v.expr i.expr at) else breaks rule.Operands at) rule.Operands at
       (if_shows (is_int i.sort) (of_int (expr.Index v.expr i.expr at)) rule.Operands at
-        (ap (shown seen) (made_opened (layer.Index v.expr i.expr at) (expr.Index v.expr i.expr at) (expr.rolls-Index v.expr i.expr at)) ∙ shown_both seen (vars_of v.expr) (vars_of i.expr) h g))
+      (ap (shown seen) (made_opened (layer.Index v.expr i.expr at) (expr.Index v.expr i.expr at) (expr.rolls-Index v.expr i.expr at)) ∙ shown_both seen (vars_of v.expr) (vars_of i.expr) h g))
 
   unary_shows : (g : Sign) (at : ℕ) (e : Made) → shown seen (vars_of e) ≡ true → Shows seen (of_int (expr.Unary g e at))
   unary_shows g at e h = ap (shown seen) (made_opened (layer.Unary g e at) (expr.Unary g e at) (expr.rolls-Unary g e at)) ∙ h

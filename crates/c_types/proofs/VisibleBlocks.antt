@@ -1,24 +1,16 @@
 -- Each variable in what a walk makes of a block stands where it is visible, and the block declares the walk's variables in their order.
-use Rattle.std.proofs.Common.{◌≡◌, ℕ, ◌+◌, Bool, true, false, ◌&&◌, ◌||◌, List, [], ◌∷◌, ◌++◌, length, map, flat_map, slice_get, Option, Some, None, option_map, refl, sym, ap, subst, ◌∙◌, nat_eq, append-nil}
+use Rattle.std.proofs.Common.{◌≡◌, ℕ, Bool, true, false, ◌||◌, List, [], ◌∷◌, ◌++◌, length, map, Option, Some, None, option_map, refl, sym, ap, ◌∙◌, nat_eq}
 use Rattle.std.specs.Prelude.{if◌then◌else◌}
-use Rattle.std.specs.List.{list_all, list_any}
+use Rattle.std.specs.List.{list_any}
 use Rattle.std.specs.Option.{option_and_then}
 use Rattle.std.specs.Set.{is_member}
 use Rattle.std.proofs.lemmas.Bool.{eq-eqb}
 use Rattle.c_tree.specs.Scopes as seen_in
 use Rattle.c_tree.specs.Scopes.{vars_of, any_vars, call_vars, right_vars, simple_vars, sees, in_turn, declr_scope, start_scope, head_scopes, last_scope, item_scope, arm_scope, items_scope, piece_scope, block_scope}
-use Rattle.c_tree.specs.declared.expr.Expr.{Expr as Made}
-use Rattle.c_tree.specs.declared.program.Block.{Block as MadeBlock}
-use Rattle.c_tree.specs.declared.program.Declr.{Declr as MadeDeclr}
 use Rattle.c_tree.specs.declared.program.Home.{Home}
 use Rattle.c_tree.specs.declared.program.Home.TheVariants as home
-use Rattle.c_tree.specs.declared.program.Item.{Item as MadeItem}
 use Rattle.c_tree.specs.declared.program.Item.TheVariants as item
 use Rattle.c_tree.specs.declared.program.Item.TheOpen as made
-use Rattle.c_tree.specs.declared.program.Right.{Right as MadeRight}
-use Rattle.c_tree.specs.declared.program.Simple.{Simple as MadeSimple}
-use Rattle.c_tree.specs.declared.program.Start.{Start as MadeStart}
-use Rattle.c_tree.specs.declared.program.Start.TheVariants as made_start
 use Rattle.c_tree.specs.declared.program.Ty.{Ty}
 use Rattle.c_tree.specs.declared.tree.Block.{Block}
 use Rattle.c_tree.specs.declared.tree.Call.{Call}
@@ -33,13 +25,11 @@ use Rattle.c_tree.specs.declared.tree.Spec.{Spec}
 use Rattle.c_tree.specs.declared.tree.Start.{Start}
 use Rattle.c_tree.specs.declared.tree.Start.TheVariants as start
 use Rattle.c_tree.specs.declared.tree.Word.{Word}
-use Rattle.c_types.specs.declared.faults.Fault.{Fault}
 use Rattle.c_types.specs.declared.faults.Rule.TheVariants as rule
 use Rattle.c_types.specs.declared.judged.Called.{Called}
 use Rattle.c_types.specs.declared.judged.Judged.{Judged}
 use Rattle.c_types.specs.declared.judged.Judged.TheVariants.{Typed, Broken}
 use Rattle.c_types.specs.declared.scope.Entry.{Entry}
-use Rattle.c_types.specs.declared.scope.Meaning.{Meaning}
 use Rattle.c_types.specs.declared.scope.Meaning.TheVariants as meaning
 use Rattle.c_types.specs.declared.scope.Nesting.{Nesting}
 use Rattle.c_types.specs.declared.scope.Returned.{Returned}
@@ -47,14 +37,13 @@ use Rattle.c_types.specs.declared.scope.Scope.{Scope}
 use Rattle.c_types.specs.declared.scope.Walk.{Walk}
 use Rattle.c_types.specs.declared.scope.Written.{Written}
 use Rattle.c_types.specs.declared.scope.Written.TheVariants.{Good, Bad}
-use Rattle.c_types.specs.Blocks.{walked_free, next_gap, walked_gap, test_of, walked_test, within, in_loop, walked_start, walked_head, walked_block}
+use Rattle.c_types.specs.Blocks.{walked_free, next_gap, walked_gap, walked_test, within, in_loop, walked_start, walked_head, walked_block}
 use Rattle.c_types.specs.Calls.{walked_call}
 use Rattle.c_types.specs.Expressions.{judged}
 use Rattle.c_types.specs.Fits.{unless}
 use Rattle.c_types.specs.InTurn.{each, optional}
-use Rattle.c_types.specs.Judged.{or_null}
 use Rattle.c_types.specs.Scopes.{spec_type, noted, with_scope, with_name, named_by, named_if, variable_meaning, var_of, with_var, declared, closed, type_faults}
-use Rattle.c_types.specs.Statements.{walked_right, assigned, walked_simple, initial, walked_initial, walked_declr, returned_value, walked_return, call_item, walked_do}
+use Rattle.c_types.specs.Statements.{walked_right, walked_simple, walked_initial, walked_declr, returned_value, walked_return, call_item, walked_do}
 use Rattle.c_types.specs.Tables.{found}
 use Rattle.c_types.proofs.BlockInduction.{Reading, Law, Chain, done, next, of_item, opened, blocks_hold}
 use Rattle.c_types.proofs.Growing.{head_grows, gap_grows, growing_law}
@@ -171,7 +160,7 @@ declr_sees p d w seen covers =
     let v = declared d.spec (home.Local p.function) p.depth w in
     let k = length w.vars in
     let l = part_sees v.0 (walked_declr p d w).0 (any_vars right_vars (walked_declr p d w).1.right) (initial_names v.1 d.at d.right v.0) (λ seen covers. initial_shown_at v.1 d.at d.right v.0 seen covers) (k ∷ seen)
-        (declared_covers d.spec (home.Local p.function) p.depth w seen covers) in
+    (declared_covers d.spec (home.Local p.function) p.depth w seen covers) in
     record { behind = l.behind; is = l.is; covers = l.covers }
 
 -- statements
@@ -200,7 +189,7 @@ head_sees p h w =
     let s = optional walked_simple h.step t.0 in
     lists_see w r.0 s.0 (map start_scope r.1) (sees (any_vars vars_of t.1) ∷ sees (any_vars simple_vars s.1) ∷ []) (each_sees (walked_start p) start_scope (start_sees p) h.start w)
     (sees_both r.0 t.0 s.0 (sees (any_vars vars_of t.1)) (in_turn (sees (any_vars simple_vars s.1) ∷ [])) (any_sees walked_test vars_of test_sees h.test r.0)
-      (one_sees t.0 s.0 (sees (any_vars simple_vars s.1)) (any_sees walked_simple simple_vars simple_sees h.step t.0)))
+    (one_sees t.0 s.0 (sees (any_vars simple_vars s.1)) (any_sees walked_simple simple_vars simple_sees h.step t.0)))
 
 -- gaps
 
