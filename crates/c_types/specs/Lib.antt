@@ -6,6 +6,7 @@ pub mod Fits
 pub mod Functions
 pub mod InTurn
 pub mod Judged
+pub mod Offsets
 pub mod Peeling
 pub mod Program
 pub mod Scopes

@@ -1,5 +1,7 @@
 // The walk through a file, the program that it makes, and the answer (C99 6.9).
 ghost use Rattle.std.specs.Prelude.{◌≡◌, IfOk, OnOk, map};
+ghost use Rattle.c_tree.specs.WellFormed.{IsWellFormed};
+ghost use Rattle.c_types.specs.Offsets.{FitsText};
 ghost use Rattle.c_types.specs.Program.{IsAnswer, IsSettled, definition_named, definitions, field_def, made_program, start, struct_def, walked, walked_from, walked_top, with_top};
 ghost use Rattle.c_types.specs.Tables.{place_of};
 
@@ -154,9 +156,8 @@ fn settled(alloc: Global, program: Program) -> Result<Program, TypeRefusal>
     }
 }
 
-/// The program of a tree, where the tree breaks no rule of names and types (C99 6.2 to 6.9). Of the broken rules the one
-/// with the least offset is answered, and at one offset the one that comes first in `Rule`.
-pub fn resolve(alloc: Global, tree: &Tree) -> Result<Program, TypeRefusal>
+// what `resolve` answers
+fn answered(alloc: Global, tree: &Tree) -> Result<Program, TypeRefusal>
     ensures { IsAnswer tree.now result }
 {
     let definitions = definitions(alloc, tree.tops.as_slice())?;
@@ -170,4 +171,14 @@ pub fn resolve(alloc: Global, tree: &Tree) -> Result<Program, TypeRefusal>
         None => Err(TypeRefusal::NoMain),
         Some(main) => settled(alloc, made_program(alloc, walk, main)?),
     }
+}
+
+/// The program of a tree, where the tree breaks no rule of names and types (C99 6.2 to 6.9). Of the broken rules the one
+/// with the least offset is answered, and at one offset the one that comes first in `Rule`. The program of a text's tree is
+/// well formed.
+pub fn resolve(alloc: Global, tree: &Tree) -> Result<Program, TypeRefusal>
+    ensures answers { IsAnswer tree.now result }
+    ensures well_formed { FitsText tree.now → IfOk result IsWellFormed }
+{
+    answered(alloc, tree)
 }
