@@ -27,6 +27,10 @@ pub mod ProgramVariables
 pub mod Rows
 pub mod Standing
 pub mod TableLemmas
+mod ScopeAscends
+mod ScopeNumbers
+mod ScopeOrder
+mod SightLaws
 mod StatementLaws
 pub mod Visible
 pub mod VisibleBlocks
