@@ -42,4 +42,12 @@ pub mod FewestFile
 pub mod Prints
 pub mod PrintWork
 pub mod PrintBlocks
+pub mod Rests
+pub mod Exchanges
+pub mod OffsetLaws
+pub mod OffsetOrder
+pub mod RetoldStatements
+pub mod RetoldFile
+pub mod Accepted
+pub mod NumbersFit
 mod Examples
