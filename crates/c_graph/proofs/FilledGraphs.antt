@@ -1,8 +1,7 @@
 -- The graph of a fill is that of the program with the choice's frees in its gaps.
-use Rattle.std.proofs.Common.{◌≡◌, ℕ, zero, suc, ◌+◌, ◌==◌, Bool, true, false, List, [], ◌∷◌, ◌++◌, map, length, slice_get, unwrap_or, Option, Some, None, option_map, refl, ap, sym, ◌∙◌, flat_map}
+use Rattle.std.proofs.Common.{◌≡◌, ℕ, suc, ◌+◌, ◌==◌, Bool, true, false, List, [], ◌∷◌, ◌++◌, map, length, slice_get, unwrap_or, Option, Some, None, refl, ap, sym, ◌∙◌, flat_map}
 use Rattle.std.specs.Prelude.{if◌then◌else◌}
 use Rattle.std.proofs.lemmas.List.{map-append, length-map}
-use Rattle.std.proofs.lemmas.Simd.{map-map}
 use Rattle.c_tree.specs.Alike.{bare}
 use Rattle.c_tree.specs.Fill.{regapped_block, regapped_fun, filled, fill}
 use Rattle.c_tree.specs.UserCalls.{item_calls, arm_calls, block_calls, piece_calls, calls_in}
@@ -16,13 +15,12 @@ use Rattle.c_tree.specs.declared.program.Program.{Program}
 use Rattle.c_meaning.specs.declared.machine.Frame.{Frame}
 use Rattle.c_meaning.specs.Parts.{Instruction, Unset, Assign, Malloc, Getchar, Putchar, Printf, Test, Invoke, Return, Close}
 use Rattle.c_meaning.specs.Place.{Spot, AtGap, AtAction, Nowhere}
-use Rattle.c_meaning.specs.Step.{onward}
 use Rattle.c_meaning.proofs.BuiltSpots.{mapped_spot}
 use Rattle.c_meaning.proofs.OutlinePlaces.{places_of_skeletons}
 use Rattle.c_meaning.proofs.Regapped.{as_it_is, here_regapped, fill_corresponds}
 use Rattle.call_contexts.specs.declared.context.Ctx.{Ctx}
 use Rattle.call_contexts.specs.Calls.{rows_from, calls_by_function}
-use Rattle.call_contexts.specs.Contexts.{visit, contexts, callee_of, home_of}
+use Rattle.call_contexts.specs.Contexts.{visit, contexts, home_of}
 use Rattle.c_graph.specs.declared.graph.Way.TheVariants as way
 use Rattle.c_graph.specs.declared.graph.Edge.{Edge}
 use Rattle.c_graph.specs.declared.graph.Graph.{Graph}
@@ -30,7 +28,7 @@ use Rattle.c_graph.specs.declared.graph.Node.{Node}
 use Rattle.c_graph.specs.declared.graph.NodeKind.TheVariants.{Gap, Act}
 use Rattle.c_graph.specs.Actions.{action_of}
 use Rattle.c_graph.specs.Filled.{filled_node, filled_graph}
-use Rattle.c_graph.specs.Nodes.{spot_at, next_at, places, Symbol, In, Lead, lead, says, way_said, enter_leads, back_leads, return_leads, leave_leads, leads_of, Placed, placed_at, placed_in, placed_from, exit_of, exit_at, exits, all_placed, same_symbol, index_of, number_of, edge_of, edges_from, graph}
+use Rattle.c_graph.specs.Nodes.{spot_at, next_at, places, Symbol, In, Lead, lead, says, way_said, back_leads, return_leads, leave_leads, leads_of, Placed, placed_at, placed_in, placed_from, exit_at, exits, all_placed, same_symbol, index_of, number_of, edge_of, edges_from, graph}
 
 flat_same : {A B : Type 0} (f g : A → List B) → ((x : A) → f x ≡ g x) → (xs : List A) → flat_map f xs ≡ flat_map g xs
 flat_same f g same [] = refl

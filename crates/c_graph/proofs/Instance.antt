@@ -33,7 +33,7 @@ contains_both true = (0, omega arith, refl)
 contains_both false = (1, omega arith, refl)
 
 -- a test says only what it can
-says_so : (slots : List Value) (objects : List Object) (l : Expr-F Expr) (b : Bool) → (eval_layer slots objects (map-Expr Expr (Result Value Stop) (eval slots objects) l) >>= truth) ≡ Ok b → Contains (says_layer l) b
+pub says_so : (slots : List Value) (objects : List Object) (l : Expr-F Expr) (b : Bool) → (eval_layer slots objects (map-Expr Expr (Result Value Stop) (eval slots objects) l) >>= truth) ≡ Ok b → Contains (says_layer l) b
 says_so slots objects (layer.Const n offset) b e = let same : not (is_zero n) ≡ b = cc in (0, omega arith, same)
 says_so slots objects (layer.Null offset) b e = contains_both b
 says_so slots objects (layer.Var x offset) b e = contains_both b

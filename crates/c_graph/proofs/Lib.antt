@@ -8,3 +8,15 @@ pub mod Lockstep
 pub mod Instance
 pub mod MetRuns
 pub mod FilledGraphs
+mod PlacesApart
+mod WholeParts
+mod CallsStand
+mod Lands
+mod Braces
+mod Homes
+pub mod EdgeWays
+pub mod EdgeEnds
+pub mod Outcomes
+pub mod Births
+pub mod Kept
+mod Exact

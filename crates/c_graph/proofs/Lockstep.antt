@@ -35,7 +35,7 @@ use Rattle.c_graph.proofs.Numbers.{place_numbered, exit_numbered, nowhere_number
 
 -- first edges
 
-taken : (asked : Way → Bool) (v to : ℕ) (w : Way) (rest : List Edge) → asked w ≡ true → first_edge asked v (record { from = v; to = to; way = w } ∷ rest) ≡ Some (record { from = v; to = to; way = w })
+pub taken : (asked : Way → Bool) (v to : ℕ) (w : Way) (rest : List Edge) → asked w ≡ true → first_edge asked v (record { from = v; to = to; way = w } ∷ rest) ≡ Some (record { from = v; to = to; way = w })
 taken asked v to w rest e = ap (λ (b : Bool). if (b && asked w) then Some (record { from = v; to = to; way = w }) else first_edge asked v rest) (eq-eqb v v refl)
     ∙ ap (λ (b : Bool). if b then Some (record { from = v; to = to; way = w }) else first_edge asked v rest) e
 
@@ -48,7 +48,7 @@ skipped asked v e rest is = skipped_by asked v e rest (e.from == v) (asked e.way
 
 module _ (p : Program) (cs : List Ctx) where
   -- the edge that is asked for leads to that symbol
-  abbrev LeadsTo : (Way → Bool) → ℕ → List Lead → Symbol → Type 0
+  abbrev pub LeadsTo : (Way → Bool) → ℕ → List Lead → Symbol → Type 0
   LeadsTo asked v leads to = (e : Edge) × (first_edge asked v (map (edge_of p cs v) leads) ≡ Some e) × (e.to ≡ number_of p cs to)
 
   first_leads : (asked : Way → Bool) (v : ℕ) (w : Way) (to : Symbol) (rest : List Lead) → asked w ≡ true → LeadsTo asked v (lead w to ∷ rest) to
@@ -75,7 +75,7 @@ module _ (p : Program) (cs : List Ctx) where
   said_later v k f path false true bs rest =
       (rest.0, skipped (allows (Some false)) v (edge_of p cs v (lead way.True (In k (next_at p f (Some true) path)))) (map (edge_of p cs v) (map (λ d. lead (way_said d) (In k (next_at p f (Some d) path))) bs)) refl ∙ rest.1, rest.2)
 
-  said_leads : (v k f : ℕ) (path : List ℕ) (b : Bool) (bs : List Bool) → Has b bs → LeadsTo (allows (Some b)) v (map (λ d. lead (way_said d) (In k (next_at p f (Some d) path))) bs) (In k (next_at p f (Some b) path))
+  pub said_leads : (v k f : ℕ) (path : List ℕ) (b : Bool) (bs : List Bool) → Has b bs → LeadsTo (allows (Some b)) v (map (λ d. lead (way_said d) (In k (next_at p f (Some d) path))) bs) (In k (next_at p f (Some b) path))
   said_leads v k f path b [] h = elim h [ ]
   said_leads v k f path true (c ∷ bs) first = first_leads (allows (Some true)) v way.True (In k (next_at p f (Some true) path)) (map (λ d. lead (way_said d) (In k (next_at p f (Some d) path))) bs) refl
   said_leads v k f path false (c ∷ bs) first = first_leads (allows (Some false)) v way.False (In k (next_at p f (Some false) path)) (map (λ d. lead (way_said d) (In k (next_at p f (Some d) path))) bs) refl

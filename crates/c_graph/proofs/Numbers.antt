@@ -113,7 +113,7 @@ module _ (p : Program) (cs : List Ctx) where
       (λ there. from_placed (k + 1) rest (λ i. let on : k + suc i ≡ k + 1 + i = omega arith in same (suc i) ∙ ap (slice_get cs) on) there)
       (has_split (placed_in p cs k c.fun) h)
 
-  all_are_placed : {x : Placed} → Has x (all_placed p cs) → IsPlaced x
+  pub all_are_placed : {x : Placed} → Has x (all_placed p cs) → IsPlaced x
   all_are_placed {x} h = ⊎_elim
       (λ here. from_placed 0 cs (λ i. let on : i ≡ 0 + i = omega arith in ap (slice_get cs) on) here)
       (λ there. let it = has_flat_from (λ path. exit_at path (spot_at p p.main path)) (places p p.main) there in an_exit it.0 it.2)

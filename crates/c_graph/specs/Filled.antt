@@ -1,5 +1,5 @@
 -- A graph with the free statements of a choice.
-use Rattle.std.specs.Prelude.{ℕ, List, map}
+use Rattle.std.specs.Prelude.{List, map}
 use Rattle.c_tree.specs.Fill.{free_of, puts_at}
 use Rattle.c_tree.specs.declared.choice.Choice.{Choice}
 use Rattle.c_tree.specs.declared.choice.Put.{Put}

@@ -151,8 +151,8 @@ abbrev pub index_of : {A : Type 0} → (A → Bool) → List A → ℕ
 index_of passes [] = 0
 index_of passes (x ∷ xs) = if passes x then 0 else suc (index_of passes xs)
 
--- the number of a node: its place among all. Where nothing stands, it is past all nodes; that no edge of a well-formed
--- program leads there is no lemma yet
+-- the number of a node: its place among all. Where nothing stands, it is past all nodes, and no edge of a well-formed program
+-- leads there
 abbrev pub number_of : Program → List Ctx → Symbol → ℕ
 number_of p cs to = index_of (λ x. same_symbol x.symbol to) (all_placed p cs)
 
