@@ -16,5 +16,9 @@ pub mod NumberingLeaves
 pub mod NumberingTops
 mod Peeled
 pub mod TableLemmas
+mod ScopeAscends
+mod ScopeNumbers
+mod ScopeOrder
+mod SightLaws
 mod StatementLaws
 mod Zeros

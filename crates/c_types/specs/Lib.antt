@@ -8,7 +8,9 @@ pub mod InTurn
 pub mod Judged
 pub mod Peeling
 pub mod Program
+pub mod ScopeAt
 pub mod Scopes
+pub mod Sights
 pub mod Statements
 pub mod Structs
 pub mod Tables

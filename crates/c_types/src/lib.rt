@@ -23,6 +23,7 @@ mod scope;
 mod statements;
 mod structs;
 mod untyped;
+mod visible;
 
 pub use answer::resolve;
 pub use cycles::first_cycle;
@@ -38,3 +39,4 @@ pub use scope::{
     BaseType, Entry, Heading, Meaning, Nesting, Returned, Scope, Signature, StructRow, Walk,
     Written,
 };
+pub use visible::{GapScope, Sight, Wanted, scope_at, scopes};
