@@ -42,4 +42,8 @@ pub mod FewestFile
 pub mod Prints
 pub mod PrintWork
 pub mod PrintBlocks
+pub mod Rests
+pub mod Exchanges
+pub mod OffsetLaws
+pub mod OffsetOrder
 mod Examples

@@ -16,3 +16,4 @@ pub mod Answer
 pub mod Turns
 pub mod Loops
 pub mod FileLoops
+pub mod Offsets
