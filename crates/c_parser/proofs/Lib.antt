@@ -46,4 +46,6 @@ pub mod Rests
 pub mod Exchanges
 pub mod OffsetLaws
 pub mod OffsetOrder
+pub mod RetoldStatements
+pub mod RetoldFile
 mod Examples
