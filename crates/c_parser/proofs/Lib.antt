@@ -48,4 +48,5 @@ pub mod OffsetLaws
 pub mod OffsetOrder
 pub mod RetoldStatements
 pub mod RetoldFile
+pub mod Accepted
 mod Examples
