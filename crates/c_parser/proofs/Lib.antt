@@ -49,4 +49,5 @@ pub mod OffsetOrder
 pub mod RetoldStatements
 pub mod RetoldFile
 pub mod Accepted
+pub mod NumbersFit
 mod Examples
