@@ -15,7 +15,7 @@ use Rattle.c_lexer.specs.declared.element.Next.TheVariants.{Plain, Escape, Close
 use Rattle.c_lexer.specs.declared.element.Quote.TheVariants.{Single}
 use Rattle.c_lexer.specs.declared.element.Stop.TheVariants as stop
 use Rattle.c_lexer.specs.declared.reading.Reading.{Reading}
-use Rattle.c_lexer.specs.Bytes.{class_of, within, is_word_byte, is_number_byte, begins, continues, continues_in_comment, stops}
+use Rattle.c_lexer.specs.Bytes.{class_of, is_word_byte, is_number_byte, begins, continues, continues_in_comment, stops}
 use Rattle.c_lexer.specs.Elements.{IsElement, CharSequence, first_place, line_end, block_end, is_decimal, decimal_value, decimal_element, greatest, number_by, text_element, character_element, escaped, escape_next, is_zero_escape, or_zero, next_of}
 use Rattle.c_lexer.specs.Words.{or_name, or_else, as_kind, key_word, refused_word, number_form, punctuator, refused_punctuator}
 use Rattle.c_lexer.specs.Scan.{Scan, ends, goes_on, width, fresh_behind, last_reading, reading_from}
