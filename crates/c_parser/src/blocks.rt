@@ -10,7 +10,7 @@ ghost use Rattle.c_parser.specs.Term.{next};
 use crate::calls::{begins_call, read_call, read_right};
 use crate::gaps::{read_free, read_gap};
 use crate::heads::{read_for_head, read_test};
-use crate::reading::{Unread, one, read_want};
+use crate::reading::{Unread, added, one, read_want};
 use crate::sizes::skip;
 use crate::statements::{begins_decl, read_decl, read_simple};
 use crate::term::{Term, next, same, term_of};
@@ -145,14 +145,13 @@ fn read_piece_behind(
     }
     let ((item, end), rest) = read_item(alloc, within, tokens)?;
     let start = token.start;
-    let mut pieces = front;
-    pieces.push(Piece {
+    let piece = Piece {
         gap,
         item,
         start,
         end,
-    })?;
-    Ok((Turn::More(pieces), rest))
+    };
+    Ok((Turn::More(added(alloc, front, piece)?), rest))
 }
 
 /// A piece behind those in front, or the last gap and the `}`.

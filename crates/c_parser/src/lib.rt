@@ -5,6 +5,7 @@ mod blocks;
 mod calls;
 mod expressions;
 mod file;
+mod front;
 mod gaps;
 mod globals;
 mod heads;

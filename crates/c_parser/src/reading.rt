@@ -1,5 +1,5 @@
 // What the functions of the parser answer, and how they read single tokens.
-ghost use Rattle.std.specs.Prelude.{◌≡◌, IfOk, [], ◌∷◌};
+ghost use Rattle.std.specs.Prelude.{◌≡◌, IfOk, [], ◌∷◌, ◌++◌};
 ghost use Rattle.c_parser.specs.Answer.{Gives};
 ghost use Rattle.c_parser.specs.ReadExpressions.{read_want, read_name};
 ghost use Rattle.c_parser.specs.ReadFile.{read_optional};
@@ -10,6 +10,7 @@ use crate::term::{Term, next, same, term_of};
 use c_lexer::{Kind, Token};
 use c_tree::tree::Word;
 use mf_list::Memory;
+use sqlite_items::Items;
 use std::alloc::Global;
 
 /// Why nothing was read: the tokens don't begin so, or want of memory.
@@ -111,4 +112,16 @@ pub fn one<T: Drop>(alloc: Global, item: T) -> Result<Vec<T>, Memory>
     let mut list = Vec::with_capacity(alloc, 1)?;
     list.push(item)?;
     Ok(list)
+}
+
+/// A list with one item more. The first makes a list of one, with no room for more.
+pub fn added<T: Drop>(alloc: Global, list: Items<T>, item: T) -> Result<Items<T>, Memory>
+    ensures { IfOk result (λ longer. longer ≡ list ++ item ∷ []) }
+{
+    if list.is_empty() {
+        return Ok(Items::from_vec(one(alloc, item)?));
+    }
+    let mut longer = list;
+    longer.push(item)?;
+    Ok(longer)
 }

@@ -3,6 +3,7 @@
 ghost use Rattle.std.specs.Prelude.{◌≡◌, Some, None, IfOk, [], ◌∷◌, ◌++◌, if◌then◌else◌, reverse};
 ghost use Rattle.c_parser.specs.Recogniser.{advance, place_of};
 
+use crate::front::Front;
 use crate::symbol::Symbol;
 use crate::table::{may_end, takes};
 use crate::term::{Term, term_of};
@@ -11,7 +12,7 @@ use mf_list::{Memory, Seq};
 use std::alloc::Global;
 
 /// Puts a row on a stack, its first symbol on top.
-fn put(stack: &mut Seq<Symbol>, row: Seq<Symbol>) -> Result<(), Memory>
+fn put(stack: &mut Seq<Symbol>, row: Front) -> Result<(), Memory>
     ensures { IfOk result (λ _. stack.new ≡ stack.old ++ reverse row) }
 {
     let mut left = row;

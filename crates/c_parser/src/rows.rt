@@ -3,43 +3,40 @@
 ghost use Rattle.std.specs.Prelude.{◌≡◌, Some, IfOk};
 ghost use Rattle.c_parser.specs.Recogniser.{followed, grouped, based, starred, operand, binary, counted, changed, stepped, operator, after, called, right, named, opened, opened_name, opened_star, arguments, more_arguments, size, next_factor, unit, unit_within, after_unit, more_locals, after_local, simple, piece, for_begun, begun, pieces, otherwise, returned, for_start, for_test, for_step};
 
+use crate::front::Front;
 use crate::symbol::{Part, Symbol};
 use crate::term::Term;
-use mf_list::{Memory, Seq};
+use mf_list::Memory;
 use std::alloc::Global;
 
 /// What replaces a symbol behind a token, or that the token doesn't begin it.
-pub type Row = Result<Option<Seq<Symbol>>, Memory>;
+pub type Row = Result<Option<Front>, Memory>;
 
 pub fn row(alloc: Global, front: &[Symbol]) -> Row
     ensures { IfOk result (λ row. row ≡ Some front.now) }
 {
-    Ok(Some(Seq::from_slice(alloc, front)?))
+    Ok(Some(Front::from_slice(alloc, front)?))
 }
 
 /// A row with more behind it.
-pub fn followed(alloc: Global, row: Option<Seq<Symbol>>, behind: &[Symbol]) -> Row
+pub fn followed(row: Option<Front>, behind: &[Symbol]) -> Row
     ensures { IfOk result (λ longer. longer ≡ followed row behind.now) }
 {
     match row {
         None => Ok(None),
         Some(front) => {
             let mut front = front;
-            front.append(Seq::from_slice(alloc, behind)?)?;
+            front.extend(behind)?;
             Ok(Some(front))
         }
     }
 }
 
 /// The rest of a group that begins an operand.
-fn grouped(alloc: Global, part: Part, row: Option<Seq<Symbol>>) -> Row
+fn grouped(part: Part, row: Option<Front>) -> Row
     ensures { IfOk result (λ longer. longer ≡ grouped part row) }
 {
-    followed(
-        alloc,
-        row,
-        &[Symbol::Want(Term::Close), Symbol::After(part)],
-    )
+    followed(row, &[Symbol::Want(Term::Close), Symbol::After(part)])
 }
 
 /// A base with what stands behind it.
@@ -48,7 +45,7 @@ pub fn based(alloc: Global, behind: &[Symbol], term: Term) -> Row
 {
     match term {
         Term::Int => row(alloc, behind),
-        Term::Struct => followed(alloc, row(alloc, &[Symbol::Want(Term::Name)])?, behind),
+        Term::Struct => followed(row(alloc, &[Symbol::Want(Term::Name)])?, behind),
         Term::Name => row(alloc, behind),
         _ => Ok(None),
     }
@@ -59,7 +56,7 @@ pub fn starred(alloc: Global, behind: &[Symbol], term: Term) -> Row
     ensures { IfOk result (λ row. row ≡ starred behind.now term) }
 {
     match term {
-        Term::Star => followed(alloc, row(alloc, &[Symbol::Want(Term::Name)])?, behind),
+        Term::Star => followed(row(alloc, &[Symbol::Want(Term::Name)])?, behind),
         Term::Name => row(alloc, behind),
         _ => Ok(None),
     }
@@ -263,7 +260,7 @@ pub fn opened(alloc: Global, part: Part, term: Term) -> Row
             ],
         ),
         Term::Name => row(alloc, &[Symbol::OpenedName(part)]),
-        _ => grouped(alloc, part, operand(alloc, Part::Whole, term)?),
+        _ => grouped(part, operand(alloc, Part::Whole, term)?),
     }
 }
 
@@ -273,7 +270,7 @@ pub fn opened_name(alloc: Global, part: Part, term: Term) -> Row
     match term {
         Term::Star => row(alloc, &[Symbol::OpenedStar(part)]),
         Term::Close => row(alloc, &[Symbol::After(part)]),
-        _ => grouped(alloc, part, after(alloc, Part::Whole, term)?),
+        _ => grouped(part, after(alloc, Part::Whole, term)?),
     }
 }
 
@@ -290,7 +287,7 @@ pub fn opened_star(alloc: Global, part: Part, term: Term) -> Row
                 Symbol::Want(Term::Close),
             ],
         ),
-        _ => grouped(alloc, part, operand(alloc, Part::Whole, term)?),
+        _ => grouped(part, operand(alloc, Part::Whole, term)?),
     }
 }
 
@@ -299,11 +296,7 @@ pub fn arguments(alloc: Global, term: Term) -> Row
 {
     match term {
         Term::Close => row(alloc, &[]),
-        _ => followed(
-            alloc,
-            operand(alloc, Part::Whole, term)?,
-            &[Symbol::MoreArguments],
-        ),
+        _ => followed(operand(alloc, Part::Whole, term)?, &[Symbol::MoreArguments]),
     }
 }
 
@@ -464,30 +457,22 @@ pub fn piece(alloc: Global, term: Term) -> Row
             &[Symbol::Opened(Part::Target), Symbol::Want(Term::Semicolon)],
         ),
         Term::Getchar => followed(
-            alloc,
             called(alloc, Term::Getchar)?,
             &[Symbol::Want(Term::Semicolon)],
         ),
         Term::Putchar => followed(
-            alloc,
             called(alloc, Term::Putchar)?,
             &[Symbol::Want(Term::Semicolon)],
         ),
         Term::Printf => followed(
-            alloc,
             called(alloc, Term::Printf)?,
             &[Symbol::Want(Term::Semicolon)],
         ),
         Term::Malloc => followed(
-            alloc,
             called(alloc, Term::Malloc)?,
             &[Symbol::Want(Term::Semicolon)],
         ),
-        _ => followed(
-            alloc,
-            simple(alloc, term)?,
-            &[Symbol::Want(Term::Semicolon)],
-        ),
+        _ => followed(simple(alloc, term)?, &[Symbol::Want(Term::Semicolon)]),
     }
 }
 
@@ -498,7 +483,6 @@ pub fn for_begun(alloc: Global, term: Term) -> Row
         Term::Name => row(alloc, &[Symbol::AfterLocal]),
         Term::Star => row(alloc, &[Symbol::Want(Term::Name), Symbol::AfterLocal]),
         _ => followed(
-            alloc,
             after(alloc, Part::Target, term)?,
             &[Symbol::Want(Term::Semicolon)],
         ),
@@ -519,7 +503,7 @@ pub fn pieces(alloc: Global, term: Term) -> Row
 {
     match term {
         Term::CloseBrace => row(alloc, &[]),
-        _ => followed(alloc, piece(alloc, term)?, &[Symbol::Pieces]),
+        _ => followed(piece(alloc, term)?, &[Symbol::Pieces]),
     }
 }
 
@@ -537,7 +521,7 @@ pub fn returned(alloc: Global, term: Term) -> Row
 {
     match term {
         Term::Semicolon => row(alloc, &[]),
-        _ => followed(alloc, right(alloc, term)?, &[Symbol::Want(Term::Semicolon)]),
+        _ => followed(right(alloc, term)?, &[Symbol::Want(Term::Semicolon)]),
     }
 }
 
@@ -558,11 +542,7 @@ pub fn for_start(alloc: Global, term: Term) -> Row
                 Symbol::Want(Term::Semicolon),
             ],
         ),
-        _ => followed(
-            alloc,
-            simple(alloc, term)?,
-            &[Symbol::Want(Term::Semicolon)],
-        ),
+        _ => followed(simple(alloc, term)?, &[Symbol::Want(Term::Semicolon)]),
     }
 }
 
@@ -572,7 +552,6 @@ pub fn for_test(alloc: Global, term: Term) -> Row
     match term {
         Term::Semicolon => row(alloc, &[]),
         _ => followed(
-            alloc,
             operand(alloc, Part::Whole, term)?,
             &[Symbol::Want(Term::Semicolon)],
         ),
@@ -597,6 +576,6 @@ pub fn for_step(alloc: Global, term: Term) -> Row
                 Symbol::Want(Term::Close),
             ],
         ),
-        _ => followed(alloc, simple(alloc, term)?, &[Symbol::Want(Term::Close)]),
+        _ => followed(simple(alloc, term)?, &[Symbol::Want(Term::Close)]),
     }
 }

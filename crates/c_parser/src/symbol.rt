@@ -16,8 +16,8 @@ pub enum Part {
     Pointed,
 }
 
-/// A symbol: a part of a text that is still to come.
-#[derive(Clone, Copy, Debug, PartialEq, Eq)]
+/// A symbol: a part of a text that is still to come. By default it is all of the text.
+#[derive(Clone, Copy, Debug, Default, PartialEq, Eq)]
 pub enum Symbol {
     Want(Term),
     // expressions
@@ -64,6 +64,7 @@ pub enum Symbol {
     ForTest,
     ForStep,
     // external declarations
+    #[default]
     File,
     /// What stands behind `typedef struct`.
     Typedef,

@@ -102,7 +102,7 @@ fn more_fields(alloc: Global, term: Term) -> Row
 {
     match term {
         Term::CloseBrace => row(alloc, &[]),
-        _ => followed(alloc, field(alloc, term)?, &[Symbol::MoreFields]),
+        _ => followed(field(alloc, term)?, &[Symbol::MoreFields]),
     }
 }
 
