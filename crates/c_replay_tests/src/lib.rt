@@ -2,8 +2,8 @@
 #![tactic(auto)]
 
 #[cfg(test)]
-mod faults;
+mod courses;
 #[cfg(test)]
-mod runs;
+mod shown;
 #[cfg(test)]
-mod trees;
+mod tests;
