@@ -7,10 +7,10 @@ use Rattle.c_lexer.specs.Outcome.{Answers}
 use Rattle.memfix_engine.specs.declared.outcome.Outcome.{Outcome}
 use Rattle.memfix_engine.specs.declared.outcome.Outcome.TheVariants.{Done, SourceRefused, Usage, TooLong, Deep, ReadFault, Memory}
 use Rattle.memfix_engine.specs.declared.refusal.SourceRefusal.{SourceRefusal}
-use Rattle.memfix_engine.specs.Reads.{Reads}
+use Rattle.memfix_engine.specs.First.Reads.{ReadsFirst}
 use Rattle.memfix_engine.specs.Refusal.{RefusesSource, source_limit}
 use Rattle.memfix_engine.specs.Outcome.{IsRepaired, IsSourceRefused, Due, usage, refused, limit, read_fault, memory, is_repair, is_done, status_of, ComesTo}
-use Rattle.memfix_engine.proofs.ReadsLemmas.{read_not_lexical, tokens_not_lexical, read_is_first, refused_not_read, refused_not_deep, deep_not_lexical}
+use Rattle.memfix_engine.proofs.First.ReadsLemmas.{read_not_lexical, tokens_not_lexical, read_is_first, refused_not_read, refused_not_deep, deep_not_lexical}
 use Rattle.memfix_engine.specs.Command.{Repaired, Noted, Cut, IsStatusOf, Written, Finishes}
 
 -- a write that answers 6 in place of another status was cut
@@ -124,7 +124,7 @@ pub status_is : (words : List (String Global)) (bytes : List ℕ) (left' : Optio
 status_is words bytes left' faults faults' status (Done text) comes is asked none =
     let same : comes.input ≡ bytes = sym comes.read.whole in
     let fits : length bytes ≤ source_limit = subst (λ b. length b ≤ source_limit) same comes.read.fits in
-    let reads : Reads bytes comes.repairs.program = subst (λ b. Reads b comes.repairs.program) same comes.repairs.built in
+    let reads : ReadsFirst bytes comes.repairs.program = subst (λ b. ReadsFirst b comes.repairs.program) same comes.repairs.built in
     record {
       too_long = λ long. let bad : ⊥ = omega (arith, fits, long) in absurd bad;
       reads = λ short program h. inl is;

@@ -11,7 +11,7 @@ use Rattle.mf_io.specs.Faults.{Rose}
 use Rattle.mf_io.specs.Whole.{TakesPart}
 use Rattle.memfix_engine.specs.declared.outcome.Outcome.{Outcome}
 use Rattle.memfix_engine.specs.declared.outcome.Outcome.TheVariants as outcome
-use Rattle.memfix_engine.specs.Reads.{IsFirst, Reads}
+use Rattle.memfix_engine.specs.First.Reads.{IsFirst, ReadsFirst}
 use Rattle.memfix_engine.specs.Refusal.{source_limit}
 use Rattle.memfix_engine.specs.Outcome.{IsRepaired, status_of, status_of_lex, notes_of}
 
@@ -41,7 +41,7 @@ IsStatus n = (n ≡ 0) ⊎ ((n ≡ 1) ⊎ ((n ≡ 2) ⊎ ((n ≡ 4) ⊎ ((n ≡ 
 -- the status of `repair` on these bytes where nothing fails; want of memory may come in its place
 pub record IsStatusOf (bytes : List ℕ) (status : ℕ) : Type 0 where
   pub too_long : source_limit < length bytes → (status ≡ 4) ⊎ (status ≡ 7)
-  pub reads : length bytes ≤ source_limit → (program : Program) → Reads bytes program → (status ≡ 0) ⊎ (status ≡ 7)
+  pub reads : length bytes ≤ source_limit → (program : Program) → ReadsFirst bytes program → (status ≡ 0) ⊎ (status ≡ 7)
   pub lexical : length bytes ≤ source_limit → (refusal : LexRefusal) → Answers bytes (Err refusal) → status_of_lex refusal ≡ 1 → (status ≡ 1) ⊎ (status ≡ 7)
   pub deep : length bytes ≤ source_limit → (at : ℕ) → Answers bytes (Err (Depth at)) → (status ≡ 4) ⊎ (status ≡ 7)
   pub not_built : length bytes ≤ source_limit → (tokens : Tokens) → AreTokens bytes tokens → ((program : Program) → IsFirst tokens.list program → ⊥)

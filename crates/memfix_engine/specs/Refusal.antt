@@ -6,7 +6,7 @@ use Rattle.memfix_engine.specs.declared.refusal.SourceRefusal.{SourceRefusal}
 use Rattle.memfix_engine.specs.declared.refusal.SourceRefusal.TheVariants as source
 use Rattle.memfix_engine.specs.declared.refusal.RepairRefusal.{RepairRefusal}
 use Rattle.memfix_engine.specs.declared.refusal.RepairRefusal.TheVariants as repair
-use Rattle.memfix_engine.specs.Prefix.{IsPlace}
+use Rattle.memfix_engine.specs.First.Prefix.{IsPlace}
 
 -- the lexer refuses nothing in the text, and its tokens stop there to be of the first form
 pub record IsNotBuilt (b : List ℕ) (at : ℕ) : Type 0 where

@@ -4,7 +4,7 @@ use Rattle.std.specs.List.Sorted.{IsNonDecreasingBy}
 use Rattle.std.proofs.lemmas.Fn.{always_returns_same}
 use Rattle.std.proofs.lemmas.List.Sorted.{IsPartitionedBy-ltb, IsNonDecreasingBy-drop}
 use Rattle.c_lexer.specs.declared.token.Token.{Token}
-use Rattle.memfix_engine.proofs.EditTokens.{starts_ascend, ends_ascend, around_from, part_of_free}
+use Rattle.memfix_engine.proofs.First.EditTokens.{starts_ascend, ends_ascend, around_from, part_of_free}
 use Rattle.memfix_engine.proofs.edit.tokens_within.Goals as goal
 
 pub returns : goal.returns

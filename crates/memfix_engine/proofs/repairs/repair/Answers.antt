@@ -1,12 +1,12 @@
 -- What is written is the edit of the source that is read.
 use Rattle.std.proofs.Common.{◌≡◌, rules, sym, subst}
 use Rattle.memfix_engine.specs.Edit.{edited, AreInOrder}
-use Rattle.memfix_engine.specs.Repair.{choice_of}
-use Rattle.memfix_engine.specs.Source.{IsSource}
+use Rattle.memfix_engine.specs.First.Choice.{choice_of}
+use Rattle.memfix_engine.specs.First.Source.{IsSource}
 use Rattle.memfix_engine.specs.declared.refusal.RepairRefusal.TheVariants.{Source}
 use Rattle.memfix_engine.specs.Refusal.{RefusesRepair}
-use Rattle.memfix_engine.proofs.ReadsLemmas.{repair_refused_only}
-use Rattle.memfix_engine.proofs.RepairLemmas.{numbered_source, ordered_source, repaired_source}
+use Rattle.memfix_engine.proofs.First.ReadsLemmas.{repair_refused_only}
+use Rattle.memfix_engine.proofs.First.RepairLemmas.{numbered_source, ordered_source, repaired_source}
 use Rattle.memfix_engine.proofs.repairs.repair.Goals as goal
 
 pub choice_of-requires : goal.choice_of-requires
