@@ -1,10 +1,10 @@
 //! The program: the command over standard input, output and error.
 #![tactic(auto)]
 
-ghost use Rattle.std.specs.Prelude.{◌≡◌, ◌⊎◌, false};
+ghost use Rattle.std.specs.Prelude.{◌≡◌, ◌⊎◌, None};
 ghost use Rattle.std.specs.IoError.{error_kind};
 ghost use Rattle.memfix_engine.specs.Command.{IsStatus};
-ghost use Rattle.memfix_engine.specs.Outcome.{is_repair};
+ghost use Rattle.memfix_engine.specs.Request.{request_of};
 ghost use Rattle.memfix_cli.specs.Ending.{status_without_words};
 
 use memfix_engine::memfix;
@@ -34,7 +34,7 @@ fn status_without_words(error: &io::Error) -> u8
 
 fn run(rt: &HostRuntime, words: &[String]) -> u8
     ensures statuses { IsStatus result }
-    ensures other_words { is_repair words.now ≡ false → (result ≡ 2) ⊎ ((result ≡ 6) ⊎ (result ≡ 7)) }
+    ensures other_words { request_of words.now ≡ None → (result ≡ 2) ⊎ ((result ≡ 6) ⊎ (result ≡ 7)) }
 {
     let mut source = StdSource::new(rt.stdin());
     let mut output = StdSink::new(rt.stdout());

@@ -1,208 +1,354 @@
 -- What the statuses say, from the outcome and what was written.
-use Rattle.std.proofs.Common.{◌≡◌, ◌⊎◌, inl, inr, ℕ, ◌≤◌, true, false, Option, Some, Err, List, length, String, arith, refl, sym, ◌∙◌, subst}
-use Rattle.std.specs.declared.alloc.Global.{Global}
-use Rattle.mf_io.specs.Faults.{Rose}
+use Rattle.std.proofs.Common.{◌≡◌, ◌⊎◌, inl, inr, ℕ, ◌+◌, ◌<◌, ◌≤◌, true, false, Option, None, Some, Err, List, [], ◌++◌, length, take, arith, refl, sym, ap, ◌∙◌, subst}
+use Rattle.std.proofs.lemmas.List.{append-nil}
+use Rattle.std.proofs.lemmas.Option.{same_Some}
+use Rattle.c_lexer.specs.declared.token.Tokens.{Tokens}
+use Rattle.c_lexer.specs.declared.refusal.LexRefusal.{LexRefusal}
 use Rattle.c_lexer.specs.declared.refusal.LexRefusal.TheVariants.{Depth}
-use Rattle.c_lexer.specs.Outcome.{Answers}
+use Rattle.c_lexer.specs.Outcome.{AreTokens, Answers}
+use Rattle.mf_io.specs.Bytes.{Takes, WasLeft, MoreLeft}
 use Rattle.memfix_engine.specs.declared.outcome.Outcome.{Outcome}
-use Rattle.memfix_engine.specs.declared.outcome.Outcome.TheVariants.{Done, SourceRefused, Usage, TooLong, Deep, ReadFault, Memory}
+use Rattle.memfix_engine.specs.declared.outcome.Outcome.TheVariants as outcome
 use Rattle.memfix_engine.specs.declared.refusal.SourceRefusal.{SourceRefusal}
+use Rattle.memfix_engine.specs.declared.refusal.SourceRefusal.TheVariants as source
+use Rattle.memfix_engine.specs.declared.request.Replay.{Replay}
+use Rattle.memfix_engine.specs.declared.request.Request.{Request}
+use Rattle.memfix_engine.specs.declared.request.Request.TheVariants as request
 use Rattle.memfix_engine.specs.First.Reads.{ReadsFirst}
-use Rattle.memfix_engine.specs.Refusal.{RefusesSource, source_limit}
-use Rattle.memfix_engine.specs.Outcome.{IsRepaired, IsSourceRefused, Due, usage, refused, limit, read_fault, memory, is_repair, is_done, status_of, ComesTo}
-use Rattle.memfix_engine.proofs.First.ReadsLemmas.{read_not_lexical, tokens_not_lexical, read_is_first, refused_not_read, refused_not_deep, deep_not_lexical}
-use Rattle.memfix_engine.specs.Command.{Repaired, Noted, Cut, IsStatusOf, Written, Finishes}
+use Rattle.memfix_engine.specs.Command.{Done, Due, refused, usage, too_long, too_deep, read_fault, memory, Noted, Cut, IsDue, Prints, CutLine, WriteFault, Accepts, IsStatusOf, IsStatus, Written, Wrote, whole, output_cut, notes_cut}
+use Rattle.memfix_engine.specs.Outcome.{ComesOf, ComesTo, OfText, IsReplay, Refuses, status_of, status_of_lex, status_of_source, output_of, notes_of, is_quiet, prints}
+use Rattle.memfix_engine.specs.Refusal.{source_limit}
+use Rattle.memfix_engine.specs.Repair.{Repairs}
+use Rattle.memfix_engine.specs.Stream.{Stream, Took, Broke, Failed}
+use Rattle.memfix_engine.proofs.First.ReadsLemmas.{reads_lexed, refused_not_read}
+use Rattle.memfix_engine.proofs.ReadsLemmas.{tokens_not_lexical, lex_not_deep, deep_not_lexical, refused_source, same_tokens}
 
--- a write that answers 6 in place of another status was cut
-pub cut_of : (taken taken' : Option (List ℕ)) (faults faults' : ℕ) (piece : List ℕ) (status result : ℕ) (IsDue : List ℕ → Type 0)
-    → Written taken taken' faults faults' piece status result → (status ≡ 6 → ⊥) → result ≡ 6 → IsDue piece → Cut taken taken' faults faults' IsDue
-cut_of taken taken' faults faults' piece status result IsDue (inl w) other is due = absurd (other (sym w.0 ∙ is))
-cut_of taken taken' faults faults' piece status result IsDue (inr w) other is due = record { piece = piece; due = due; part = w.1; rose = w.2 }
+-- nothing is a proper part of no text
+none_broke : (s : Stream) → Broke s [] → ⊥
+none_broke s h = let short = h.part.short in omega arith
 
--- a write without a fault answers its status
-pub whole_of : (taken taken' : Option (List ℕ)) (faults faults' : ℕ) (piece : List ℕ) (status result : ℕ)
-    → Written taken taken' faults faults' piece status result → (Rose faults faults' → ⊥) → result ≡ status
-whole_of taken taken' faults faults' piece status result (inl w) none = w.0
-whole_of taken taken' faults faults' piece status result (inr w) none = absurd (none w.2)
+-- Status 0.
 
--- a write that answers another status than 6 has written the whole line
-said_of : (taken taken' : Option (List ℕ)) (faults faults' : ℕ) (piece : List ℕ) (status result : ℕ) (Cause : List ℕ → Type 0)
-    → Written taken taken' faults faults' piece status result → (result ≡ 6 → ⊥) → (result ≡ status → Cause piece) → Noted taken taken' Cause
-said_of taken taken' faults faults' piece status result Cause (inl w) other cause = record { line = piece; cause = cause w.0; takes = w.1 }
-said_of taken taken' faults faults' piece status result Cause (inr w) other cause = absurd (other w.0)
+pub done_of : (words : Option Request) (s output notes : Stream) (Quiet : Type 0) (status : ℕ) (o : Outcome)
+    → ComesTo words s o → Wrote output notes Quiet (output_of o) (notes_of o) (status_of o) status → status ≡ 0 → Done words s output notes
+done_of words s output notes Quiet status o comes (output_cut six broke quiet) is = absurd (let no : ⊥ = omega (arith, six, is) in no)
+done_of words s output notes Quiet status o comes (notes_cut six took broke) is = absurd (let no : ⊥ = omega (arith, six, is) in no)
+done_of words s output notes Quiet status (outcome.Repaired text) comes (whole same took noted) is =
+    subst (λ w. Done w s output notes) (sym (comes.words_ask ∙ ap Some comes.cause.0))
+    (record { input = comes.input; text = text.items; read = comes.read; repairs = comes.cause.1; took = took })
+done_of words s output notes Quiet status (outcome.Replayed text line) comes (whole same took noted) is =
+    let r = comes.cause.0 in
+    let replay = comes.cause.2 in
+    subst (λ w. Done w s output notes) (sym (comes.words_ask ∙ ap Some comes.cause.1))
+    (record {
+      input = comes.input;
+      machine = replay.machine;
+      read = comes.read;
+      replays = replay.replays;
+      printed = subst (Took output) replay.output took;
+      noted = subst (Took notes) replay.text noted;
+    })
+done_of words s output notes Quiet status (outcome.SourceRefused line) comes (whole same took noted) is = absurd (let no : ⊥ = omega (arith, same, is) in no)
+done_of words s output notes Quiet status outcome.Usage comes (whole same took noted) is = absurd (let no : ⊥ = omega (arith, same, is) in no)
+done_of words s output notes Quiet status outcome.TooLong comes (whole same took noted) is = absurd (let no : ⊥ = omega (arith, same, is) in no)
+done_of words s output notes Quiet status (outcome.Deep line) comes (whole same took noted) is = absurd (let no : ⊥ = omega (arith, same, is) in no)
+done_of words s output notes Quiet status outcome.ReadFault comes (whole same took noted) is = absurd (let no : ⊥ = omega (arith, same, is) in no)
+done_of words s output notes Quiet status outcome.Memory comes (whole same took noted) is = absurd (let no : ⊥ = omega (arith, same, is) in no)
 
-done_not_refused : (taken taken' : Option (List ℕ)) (faults faults' : ℕ) (piece : List ℕ) (result : ℕ) → Written taken taken' faults faults' piece 0 result → result ≡ 1 → ⊥
-done_not_refused taken taken' faults faults' piece result (inl w) is = omega (arith, w.0, is)
-done_not_refused taken taken' faults faults' piece result (inr w) is = omega (arith, w.0, is)
+-- The other statuses: done, or a line.
 
--- status 1 has its line and its cause
-pub source_refused : (words : List (String Global)) (left left' : Option (List ℕ)) (faults faults' : ℕ)
-    (taken taken' : Option (List ℕ)) (output_faults output_faults' : ℕ) (noted noted' : Option (List ℕ)) (notes_faults notes_faults' : ℕ) (status : ℕ) (o : Outcome)
-    → ComesTo words left left' faults faults' o
-    → Finishes taken taken' output_faults output_faults' noted noted' notes_faults notes_faults' status o
-    → status ≡ 1 → Noted noted noted' (IsSourceRefused words left left')
-source_refused words left left' faults faults' taken taken' output_faults output_faults' noted noted' notes_faults notes_faults' status (Done text) comes written is =
-    absurd (done_not_refused taken taken' output_faults output_faults' text.items status written is)
-source_refused words left left' faults faults' taken taken' output_faults output_faults' noted noted' notes_faults notes_faults' status (SourceRefused line) comes written is =
-    said_of noted noted' notes_faults notes_faults' _ 1 status (IsSourceRefused words left left') written (λ e. omega (arith, e, is)) (λ e. comes)
-source_refused words left left' faults faults' taken taken' output_faults output_faults' noted noted' notes_faults notes_faults' status Usage comes written is =
-    said_of noted noted' notes_faults notes_faults' _ 2 status (IsSourceRefused words left left') written (λ e. omega (arith, e, is)) (λ e. absurd (omega (arith, e, is)))
-source_refused words left left' faults faults' taken taken' output_faults output_faults' noted noted' notes_faults notes_faults' status TooLong comes written is =
-    said_of noted noted' notes_faults notes_faults' _ 4 status (IsSourceRefused words left left') written (λ e. omega (arith, e, is)) (λ e. absurd (omega (arith, e, is)))
-source_refused words left left' faults faults' taken taken' output_faults output_faults' noted noted' notes_faults notes_faults' status (Deep line) comes written is =
-    said_of noted noted' notes_faults notes_faults' _ 4 status (IsSourceRefused words left left') written (λ e. omega (arith, e, is)) (λ e. absurd (omega (arith, e, is)))
-source_refused words left left' faults faults' taken taken' output_faults output_faults' noted noted' notes_faults notes_faults' status ReadFault comes written is =
-    said_of noted noted' notes_faults notes_faults' _ 5 status (IsSourceRefused words left left') written (λ e. omega (arith, e, is)) (λ e. absurd (omega (arith, e, is)))
-source_refused words left left' faults faults' taken taken' output_faults output_faults' noted noted' notes_faults notes_faults' status Memory comes written is =
-    said_of noted noted' notes_faults notes_faults' _ 7 status (IsSourceRefused words left left') written (λ e. omega (arith, e, is)) (λ e. absurd (omega (arith, e, is)))
+-- an outcome that isn't done has its line, and that its cause
+due_of : (words : Option Request) (s : Stream) (o : Outcome) → ComesTo words s o → (status_of o ≡ 0 → ⊥) → Due words s (status_of o) (notes_of o)
+due_of words s (outcome.Repaired text) comes other = absurd (other refl)
+due_of words s (outcome.Replayed text line) comes other = absurd (other refl)
+due_of words s (outcome.SourceRefused line) comes other = refused comes
+due_of words s outcome.Usage comes other = usage comes
+due_of words s outcome.TooLong comes other = too_long comes
+due_of words s (outcome.Deep line) comes other = too_deep comes
+due_of words s outcome.ReadFault comes other = read_fault comes
+due_of words s outcome.Memory comes other = memory comes
 
-abbrev pub OutputOrLine : {K N : Type 0} (words : List (String Global)) (left left' : Option (List ℕ)) (faults faults' : ℕ)
-    (taken taken' : Option (List ℕ)) (output_faults output_faults' : ℕ) (noted noted' : Option (List ℕ)) (notes_faults notes_faults' : ℕ)
-    (output output' : K) (notes notes' : N) → Type 0
-OutputOrLine words left left' faults faults' taken taken' output_faults output_faults' noted noted' notes_faults notes_faults' output output' notes notes' =
-    (Cut taken taken' output_faults output_faults' (IsRepaired words left left') × (notes' ≡ notes))
-    ⊎ (Cut noted noted' notes_faults notes_faults' (Due words left left' faults faults') × (output' ≡ output))
+pub noted_of : (words : Option Request) (s output notes : Stream) (Quiet : Type 0) (status : ℕ) (o : Outcome)
+    → ComesTo words s o → Wrote output notes Quiet (output_of o) (notes_of o) (status_of o) status
+    → (status ≡ 0 → ⊥) → (status ≡ 6 → ⊥) → Noted notes (Due words s status)
+noted_of words s output notes Quiet status o comes (whole same took noted) other six = record {
+  line = notes_of o;
+  cause = subst (λ n. Due words s n (notes_of o)) (sym same) (due_of words s o comes (λ e. other (same ∙ e)));
+  took = noted;
+}
+noted_of words s output notes Quiet status o comes (output_cut is broke quiet) other six = absurd (six is)
+noted_of words s output notes Quiet status o comes (notes_cut is took broke) other six = absurd (six is)
 
-pub write_fault : {K N : Type 0} (words : List (String Global)) (left left' : Option (List ℕ)) (faults faults' : ℕ)
-    (taken taken' : Option (List ℕ)) (output_faults output_faults' : ℕ) (noted noted' : Option (List ℕ)) (notes_faults notes_faults' : ℕ)
-    (output output' : K) (notes notes' : N) (status : ℕ) (o : Outcome)
-    → ComesTo words left left' faults faults' o
-    → Finishes taken taken' output_faults output_faults' noted noted' notes_faults notes_faults' status o
-    → (is_done o ≡ true → notes' ≡ notes)
-    → (is_done o ≡ false → output' ≡ output)
-    → status ≡ 6
-    → OutputOrLine words left left' faults faults' taken taken' output_faults output_faults' noted noted' notes_faults notes_faults' output output' notes notes'
-write_fault words left left' faults faults' taken taken' output_faults output_faults' noted noted' notes_faults notes_faults' output output' notes notes' status (Done text) comes written quiet untouched is =
-    inl (cut_of taken taken' output_faults output_faults' text.items 0 status (IsRepaired words left left') written (λ e. omega (arith, e)) is comes, quiet refl)
-write_fault words left left' faults faults' taken taken' output_faults output_faults' noted noted' notes_faults notes_faults' output output' notes notes' status (SourceRefused line) comes written quiet untouched is =
-    inr (cut_of noted noted' notes_faults notes_faults' _ 1 status (Due words left left' faults faults') written (λ e. omega (arith, e)) is (refused comes), untouched refl)
-write_fault words left left' faults faults' taken taken' output_faults output_faults' noted noted' notes_faults notes_faults' output output' notes notes' status Usage comes written quiet untouched is =
-    inr (cut_of noted noted' notes_faults notes_faults' _ 2 status (Due words left left' faults faults') written (λ e. omega (arith, e)) is (usage comes), untouched refl)
-write_fault words left left' faults faults' taken taken' output_faults output_faults' noted noted' notes_faults notes_faults' output output' notes notes' status TooLong comes written quiet untouched is =
-    inr (cut_of noted noted' notes_faults notes_faults' _ 4 status (Due words left left' faults faults') written (λ e. omega (arith, e)) is (limit (inl comes)), untouched refl)
-write_fault words left left' faults faults' taken taken' output_faults output_faults' noted noted' notes_faults notes_faults' output output' notes notes' status (Deep line) comes written quiet untouched is =
-    inr (cut_of noted noted' notes_faults notes_faults' _ 4 status (Due words left left' faults faults') written (λ e. omega (arith, e)) is (limit (inr comes)), untouched refl)
-write_fault words left left' faults faults' taken taken' output_faults output_faults' noted noted' notes_faults notes_faults' output output' notes notes' status ReadFault comes written quiet untouched is =
-    inr (cut_of noted noted' notes_faults notes_faults' _ 5 status (Due words left left' faults faults') written (λ e. omega (arith, e)) is (read_fault comes), untouched refl)
-write_fault words left left' faults faults' taken taken' output_faults output_faults' noted noted' notes_faults notes_faults' output output' notes notes' status Memory comes written quiet untouched is =
-    inr (cut_of noted noted' notes_faults notes_faults' _ 7 status (Due words left left' faults faults') written (λ e. omega (arith, e)) is (memory comes), untouched refl)
+-- Status 6.
 
--- a line was written, so the status is not 0
-not_done : (noted noted' : Option (List ℕ)) (notes_faults notes_faults' : ℕ) (line : List ℕ) (due status : ℕ)
-    → Written noted noted' notes_faults notes_faults' line due status → (due ≡ 0 → ⊥) → status ≡ 0 → ⊥
-not_done noted noted' notes_faults notes_faults' line due status (inl w) other is = other (sym w.0 ∙ is)
-not_done noted noted' notes_faults notes_faults' line due status (inr w) other is = let bad : ⊥ = omega (arith, w.0, is) in bad
+-- what is due on the output is of a text
+printed_of : (words : Option Request) (s output : Stream) (o : Outcome) → ComesTo words s o → Broke output (output_of o)
+    → Cut output (λ text. OfText words s (λ asked bytes. Prints asked bytes text))
+printed_of words s output (outcome.Repaired text) comes broke = record {
+  piece = text.items;
+  due = record {
+    asked = request.Repair;
+    words_ask = comes.words_ask ∙ ap Some comes.cause.0;
+    input = comes.input;
+    read = comes.read;
+    cause = comes.cause.1;
+  };
+  broke = broke;
+}
+printed_of words s output (outcome.Replayed text line) comes broke = record {
+  piece = text;
+  due = record {
+    asked = request.Replay comes.cause.0;
+    words_ask = comes.words_ask ∙ ap Some comes.cause.1;
+    input = comes.input;
+    read = comes.read;
+    cause = (comes.cause.2.machine, comes.cause.2.replays, comes.cause.2.output);
+  };
+  broke = broke;
+}
+printed_of words s output (outcome.SourceRefused line) comes broke = absurd (none_broke output broke)
+printed_of words s output outcome.Usage comes broke = absurd (none_broke output broke)
+printed_of words s output outcome.TooLong comes broke = absurd (none_broke output broke)
+printed_of words s output (outcome.Deep line) comes broke = absurd (none_broke output broke)
+printed_of words s output outcome.ReadFault comes broke = absurd (none_broke output broke)
+printed_of words s output outcome.Memory comes broke = absurd (none_broke output broke)
 
--- status 0 comes with the repaired text alone
-pub done_of : (words : List (String Global)) (left left' : Option (List ℕ)) (faults faults' : ℕ)
-    (taken taken' : Option (List ℕ)) (output_faults output_faults' : ℕ) (noted noted' : Option (List ℕ)) (notes_faults notes_faults' : ℕ) (status : ℕ) (o : Outcome)
-    → ComesTo words left left' faults faults' o
-    → Finishes taken taken' output_faults output_faults' noted noted' notes_faults notes_faults' status o
-    → status ≡ 0 → Repaired words left left' taken taken'
-done_of words left left' faults faults' taken taken' output_faults output_faults' noted noted' notes_faults notes_faults' status (Done text) comes (inl w) is =
-    record { text = text.items; repaired = comes; takes = w.1 }
-done_of words left left' faults faults' taken taken' output_faults output_faults' noted noted' notes_faults notes_faults' status (Done text) comes (inr w) is =
-    let bad : ⊥ = omega (arith, w.0, is) in absurd bad
-done_of words left left' faults faults' taken taken' output_faults output_faults' noted noted' notes_faults notes_faults' status (SourceRefused line) comes written is =
-    absurd (not_done noted noted' notes_faults notes_faults' _ 1 status written (λ e. omega (arith, e)) is)
-done_of words left left' faults faults' taken taken' output_faults output_faults' noted noted' notes_faults notes_faults' status Usage comes written is =
-    absurd (not_done noted noted' notes_faults notes_faults' _ 2 status written (λ e. omega (arith, e)) is)
-done_of words left left' faults faults' taken taken' output_faults output_faults' noted noted' notes_faults notes_faults' status TooLong comes written is =
-    absurd (not_done noted noted' notes_faults notes_faults' _ 4 status written (λ e. omega (arith, e)) is)
-done_of words left left' faults faults' taken taken' output_faults output_faults' noted noted' notes_faults notes_faults' status (Deep line) comes written is =
-    absurd (not_done noted noted' notes_faults notes_faults' _ 4 status written (λ e. omega (arith, e)) is)
-done_of words left left' faults faults' taken taken' output_faults output_faults' noted noted' notes_faults notes_faults' status ReadFault comes written is =
-    absurd (not_done noted noted' notes_faults notes_faults' _ 5 status written (λ e. omega (arith, e)) is)
-done_of words left left' faults faults' taken taken' output_faults output_faults' noted noted' notes_faults notes_faults' status Memory comes written is =
-    absurd (not_done noted noted' notes_faults notes_faults' _ 7 status written (λ e. omega (arith, e)) is)
+-- a line that was cut is due, or is that of a replay
+line_of : (words : Option Request) (s output notes : Stream) (Untouched : Type 0) (o : Outcome) → ComesTo words s o
+    → (prints o ≡ false → Untouched) → Took output (output_of o) → Broke notes (notes_of o)
+    → (Cut notes (IsDue words s) × Untouched) ⊎ CutLine words s output notes
+line_of words s output notes Untouched (outcome.Repaired text) comes untouched took broke = absurd (none_broke notes broke)
+line_of words s output notes Untouched (outcome.Replayed text line) comes untouched took broke =
+    let replay = comes.cause.2 in
+    inr (record {
+      replay = comes.cause.0;
+      words_ask = comes.words_ask ∙ ap Some comes.cause.1;
+      input = comes.input;
+      machine = replay.machine;
+      read = comes.read;
+      replays = replay.replays;
+      printed = subst (Took output) replay.output took;
+      broke = subst (Broke notes) replay.text broke;
+    })
+line_of words s output notes Untouched (outcome.SourceRefused line) comes untouched took broke = inl (record { piece = _; due = (1, refused comes); broke = broke }, untouched refl)
+line_of words s output notes Untouched outcome.Usage comes untouched took broke = inl (record { piece = _; due = (2, usage comes); broke = broke }, untouched refl)
+line_of words s output notes Untouched outcome.TooLong comes untouched took broke = inl (record { piece = _; due = (4, too_long comes); broke = broke }, untouched refl)
+line_of words s output notes Untouched (outcome.Deep line) comes untouched took broke = inl (record { piece = _; due = (4, too_deep comes); broke = broke }, untouched refl)
+line_of words s output notes Untouched outcome.ReadFault comes untouched took broke = inl (record { piece = _; due = (5, read_fault comes); broke = broke }, untouched refl)
+line_of words s output notes Untouched outcome.Memory comes untouched took broke = inl (record { piece = _; due = (7, memory comes); broke = broke }, untouched refl)
 
--- the status of an outcome that comes of these bytes
-pub status_is : (words : List (String Global)) (bytes : List ℕ) (left' : Option (List ℕ)) (faults faults' : ℕ) (status : ℕ) (o : Outcome)
-    → ComesTo words (Some bytes) left' faults faults' o
-    → status ≡ status_of o → is_repair words ≡ true → (Rose faults faults' → ⊥)
-    → IsStatusOf bytes status
-status_is words bytes left' faults faults' status (Done text) comes is asked none =
-    let same : comes.input ≡ bytes = sym comes.read.whole in
-    let fits : length bytes ≤ source_limit = subst (λ b. length b ≤ source_limit) same comes.read.fits in
-    let reads : ReadsFirst bytes comes.repairs.program = subst (λ b. ReadsFirst b comes.repairs.program) same comes.repairs.built in
-    record {
-      too_long = λ long. let bad : ⊥ = omega (arith, fits, long) in absurd bad;
-      reads = λ short program h. inl is;
-      lexical = λ short refusal h one. absurd (read_not_lexical bytes comes.repairs.program refusal reads h);
-      deep = λ short at h. absurd (read_not_lexical bytes comes.repairs.program (Depth at) reads h);
-      not_built = λ short tokens are no. absurd (no comes.repairs.program (read_is_first bytes tokens comes.repairs.program are reads));
-    }
-status_is words bytes left' faults faults' status (SourceRefused line) comes is asked none =
-    let same : comes.input ≡ bytes = sym comes.read.whole in
-    let fits : length bytes ≤ source_limit = subst (λ b. length b ≤ source_limit) same comes.read.fits in
-    let r : SourceRefusal = comes.refused.refusal in
-    let refuses : RefusesSource bytes r = subst (λ b. RefusesSource b r) same comes.refused.refuses in
-    record {
-      too_long = λ long. let bad : ⊥ = omega (arith, fits, long) in absurd bad;
-      reads = λ short program h. absurd (refused_not_read bytes r program refuses comes.refused.status h);
-      lexical = λ short refusal h one. inl is;
-      deep = λ short at h. absurd (refused_not_deep bytes r at refuses comes.refused.status h);
-      not_built = λ short tokens are no. inl is;
-    }
-status_is words bytes left' faults faults' status Usage comes is asked none =
-    let bad : true ≡ false = sym asked ∙ comes.asked in let worse : ⊥ = cc bad in absurd worse
-status_is words bytes left' faults faults' status TooLong comes is asked none =
-    record {
-      too_long = λ long. inl is;
-      reads = λ short program h. let bad : ⊥ = omega (arith, comes.more, short) in absurd bad;
-      lexical = λ short refusal h one. let bad : ⊥ = omega (arith, comes.more, short) in absurd bad;
-      deep = λ short at h. let bad : ⊥ = omega (arith, comes.more, short) in absurd bad;
-      not_built = λ short tokens are no. let bad : ⊥ = omega (arith, comes.more, short) in absurd bad;
-    }
-status_is words bytes left' faults faults' status (Deep line) comes is asked none =
-    let same : comes.input ≡ bytes = sym comes.read.whole in
-    let fits : length bytes ≤ source_limit = subst (λ b. length b ≤ source_limit) same comes.read.fits in
-    let here : ℕ = comes.deep.at in
-    let deep : Answers bytes (Err (Depth here)) = subst (λ b. Answers b (Err (Depth here))) same comes.deep.deep in
-    record {
-      too_long = λ long. let bad : ⊥ = omega (arith, fits, long) in absurd bad;
-      reads = λ short program h. absurd (read_not_lexical bytes program (Depth here) h deep);
-      lexical = λ short refusal h one. absurd (deep_not_lexical bytes here refusal deep h one);
-      deep = λ short at h. inl is;
-      not_built = λ short tokens are no. absurd (tokens_not_lexical bytes tokens (Depth here) are deep);
-    }
-status_is words bytes left' faults faults' status ReadFault comes is asked none = absurd (none comes.rose)
-status_is words bytes left' faults faults' status Memory comes is asked none =
-    record {
-      too_long = λ long. inr is;
-      reads = λ short program h. inr is;
-      lexical = λ short refusal h one. inr is;
-      deep = λ short at h. inr is;
-      not_built = λ short tokens are no. inr is;
-    }
+status_not_six : (o : Outcome) → status_of o ≡ 6 → ⊥
+status_not_six (outcome.Repaired text) is = omega (arith, is)
+status_not_six (outcome.Replayed text line) is = omega (arith, is)
+status_not_six (outcome.SourceRefused line) is = omega (arith, is)
+status_not_six outcome.Usage is = omega (arith, is)
+status_not_six outcome.TooLong is = omega (arith, is)
+status_not_six (outcome.Deep line) is = omega (arith, is)
+status_not_six outcome.ReadFault is = omega (arith, is)
+status_not_six outcome.Memory is = omega (arith, is)
+
+pub fault_of : (words : Option Request) (s output notes : Stream) (Untouched Quiet : Type 0) (status : ℕ) (o : Outcome)
+    → ComesTo words s o → Wrote output notes Quiet (output_of o) (notes_of o) (status_of o) status → (prints o ≡ false → Untouched)
+    → status ≡ 6 → WriteFault words s output notes Untouched Quiet
+fault_of words s output notes Untouched Quiet status o comes (whole same took noted) untouched is = absurd (status_not_six o (sym same ∙ is))
+fault_of words s output notes Untouched Quiet status o comes (output_cut six broke quiet) untouched is = inl (printed_of words s output o comes broke, quiet)
+fault_of words s output notes Untouched Quiet status o comes (notes_cut six took broke) untouched is = inr (line_of words s output notes Untouched o comes untouched took broke)
+
+-- Exactness.
+
+-- what is accepted is not refused, but for want of memory
+accepted_not_refused : (asked : Request) (b : List ℕ) (ts : Tokens) (r : SourceRefusal) → AreTokens b ts → Accepts asked ts → Refuses asked b r → (r ≡ source.Memory → ⊥) → ⊥
+accepted_not_refused request.Repair b ts r are accepts refuses other =
+    let reads : ReadsFirst b accepts.0 = record { tokens = ts.list; scanned = record { last_comment = ts.last_comment; reads = are.reads }; first = accepts.1 } in
+    refused_not_read b r accepts.0 refuses other reads
+accepted_not_refused (request.Replay q) b ts r are accepts refuses other = refused_source b r refuses other accepts.0 (record { tokens = ts; are = are; program = accepts.1 })
+
+-- what has status 1 is no want of memory
+caused_by : (r : SourceRefusal) → status_of_source r ≡ 1 → r ≡ source.Memory → ⊥
+caused_by r one is = let seven : status_of_source r ≡ 7 = ap status_of_source is in let no : ⊥ = omega (arith, one, seven) in no
+
+-- what is refused with status 1 is not too deep
+refused_not_deep : (asked : Request) (b : List ℕ) (r : SourceRefusal) (at : ℕ) → Refuses asked b r → status_of_source r ≡ 1 → Answers b (Err (Depth at)) → ⊥
+refused_not_deep request.Repair b (source.Lex r) at h one k = lex_not_deep b r at h one k
+refused_not_deep request.Repair b (source.Parse r) at h one k = tokens_not_lexical b h.tokens (Depth at) h.are k
+refused_not_deep request.Repair b (source.Resolve r) at h one k = tokens_not_lexical b h.tokens (Depth at) h.are k
+refused_not_deep request.Repair b (source.NotBuilt n) at h one k = tokens_not_lexical b h.tokens (Depth at) h.are k
+refused_not_deep request.Repair b source.Memory at h one k = let no : ⊥ = omega (arith, one) in no
+refused_not_deep (request.Replay q) b (source.Lex r) at h one k = lex_not_deep b r at h one k
+refused_not_deep (request.Replay q) b (source.Parse r) at h one k = tokens_not_lexical b h.tokens (Depth at) h.are k
+refused_not_deep (request.Replay q) b (source.Resolve r) at h one k = tokens_not_lexical b h.tokens (Depth at) h.are k
+refused_not_deep (request.Replay q) b (source.NotBuilt n) at h one k = h
+refused_not_deep (request.Replay q) b source.Memory at h one k = let no : ⊥ = omega (arith, one) in no
+
+-- the statuses of a text, by what it comes to
+
+status_done : (asked : Request) (b : List ℕ) (ts : Tokens) (status : ℕ) → length b ≤ source_limit → AreTokens b ts → Accepts asked ts → status ≡ 0 → IsStatusOf asked b status
+status_done asked b ts status fits are accepts is = record {
+  too_long = λ long. let no : ⊥ = omega (arith, fits, long) in absurd no;
+  lexical = λ short r h one. absurd (tokens_not_lexical b ts r are h);
+  deep = λ short at h. absurd (tokens_not_lexical b ts (Depth at) are h);
+  accepted = λ short us h k. inl is;
+  other = λ short us h none. absurd (none (subst (Accepts asked) (same_tokens b ts us are h) accepts));
+}
+
+status_refused : (asked : Request) (b : List ℕ) (r : SourceRefusal) (status : ℕ) → length b ≤ source_limit → Refuses asked b r → status_of_source r ≡ 1 → status ≡ 1 → IsStatusOf asked b status
+status_refused asked b r status fits refuses one is = record {
+  too_long = λ long. let no : ⊥ = omega (arith, fits, long) in absurd no;
+  lexical = λ short q h k. inl is;
+  deep = λ short at h. absurd (refused_not_deep asked b r at refuses one h);
+  accepted = λ short us h k. absurd (accepted_not_refused asked b us r h k refuses (caused_by r one));
+  other = λ short us h none. inl is;
+}
+
+status_deep : (asked : Request) (b : List ℕ) (at status : ℕ) → length b ≤ source_limit → Answers b (Err (Depth at)) → status ≡ 4 → IsStatusOf asked b status
+status_deep asked b at status fits deep is = record {
+  too_long = λ long. let no : ⊥ = omega (arith, fits, long) in absurd no;
+  lexical = λ short r h one. absurd (deep_not_lexical b at r deep h one);
+  deep = λ short n h. inl is;
+  accepted = λ short us h k. absurd (tokens_not_lexical b us (Depth at) h deep);
+  other = λ short us h none. absurd (tokens_not_lexical b us (Depth at) h deep);
+}
+
+status_too_long : (asked : Request) (b : List ℕ) (status : ℕ) → source_limit < length b → status ≡ 4 → IsStatusOf asked b status
+status_too_long asked b status long is = record {
+  too_long = λ same. inl is;
+  lexical = λ short r h one. let no : ⊥ = omega (arith, long, short) in absurd no;
+  deep = λ short at h. let no : ⊥ = omega (arith, long, short) in absurd no;
+  accepted = λ short us h k. let no : ⊥ = omega (arith, long, short) in absurd no;
+  other = λ short us h none. let no : ⊥ = omega (arith, long, short) in absurd no;
+}
+
+status_memory : (asked : Request) (b : List ℕ) (status : ℕ) → status ≡ 7 → IsStatusOf asked b status
+status_memory asked b status is = record {
+  too_long = λ long. inr is;
+  lexical = λ short r h one. inr is;
+  deep = λ short at h. inr is;
+  accepted = λ short us h k. inr is;
+  other = λ short us h none. inr is;
+}
+
+status_repaired : (asked : Request) (b w : List ℕ) (status : ℕ) → length b ≤ source_limit → (asked ≡ request.Repair) × Repairs b w → status ≡ 0 → IsStatusOf asked b status
+status_repaired asked b w status fits h is =
+    let l = reads_lexed b h.1.program h.1.built in
+    subst (λ q. IsStatusOf q b status) (sym h.0) (status_done request.Repair b l.tokens status fits l.are (h.1.program, l.first) is)
+
+status_replayed : (asked : Request) (b text line : List ℕ) (status : ℕ) → length b ≤ source_limit → ((r : Replay) × (asked ≡ request.Replay r) × IsReplay r b text line) → status ≡ 0 → IsStatusOf asked b status
+status_replayed asked b text line status fits h is =
+    let k = h.2.replays in
+    subst (λ q. IsStatusOf q b status) (sym h.1) (status_done (request.Replay h.0) b k.reads.tokens status fits k.reads.are (k.program, k.reads.program) is)
+
+-- what holds of the text that was read holds of the bytes that were left
+of_text : (words : Option Request) (s : Stream) (Cause : Request → List ℕ → Type 0) (asked : Request) (bytes : List ℕ) (status : ℕ)
+    → OfText words s Cause → words ≡ Some asked → s.before ≡ Some bytes
+    → ((q : Request) (b : List ℕ) → length b ≤ source_limit → Cause q b → IsStatusOf q b status) → IsStatusOf asked bytes status
+of_text words s Cause asked bytes status h ask told by =
+    let input : bytes ≡ h.input = subst (λ l. WasLeft l h.input) told h.read.whole in
+    let same : h.asked ≡ asked = same_Some h.asked asked (sym h.words_ask ∙ ask) in
+    subst (λ q. IsStatusOf q bytes status) same (subst (λ b. IsStatusOf h.asked b status) (sym input) (by h.asked h.input h.read.fits h.cause))
+
+status_is : (words : Option Request) (s : Stream) (asked : Request) (bytes : List ℕ) (status : ℕ) (o : Outcome)
+    → ComesTo words s o → status ≡ status_of o → words ≡ Some asked → s.before ≡ Some bytes → (Failed s → ⊥) → IsStatusOf asked bytes status
+status_is words s asked bytes status (outcome.Repaired text) comes is ask told none =
+    of_text words s _ asked bytes status comes ask told (λ q b fits h. status_repaired q b text.items status fits h is)
+status_is words s asked bytes status (outcome.Replayed text line) comes is ask told none =
+    of_text words s _ asked bytes status comes ask told (λ q b fits h. status_replayed q b text line.items status fits h is)
+status_is words s asked bytes status (outcome.SourceRefused line) comes is ask told none =
+    of_text words s _ asked bytes status comes ask told (λ q b fits h. status_refused q b h.refusal status fits h.refuses h.status is)
+status_is words s asked bytes status outcome.Usage comes is ask told none = let no : Some asked ≡ None = sym ask ∙ comes.unasked in absurd (cc)
+status_is words s asked bytes status outcome.TooLong comes is ask told none = status_too_long asked bytes status (subst (MoreLeft source_limit) told comes.more) is
+status_is words s asked bytes status (outcome.Deep line) comes is ask told none =
+    of_text words s _ asked bytes status comes ask told (λ q b fits h. status_deep q b h.at status fits h.deep is)
+status_is words s asked bytes status outcome.ReadFault comes is ask told none = absurd (none comes.failed)
+status_is words s asked bytes status outcome.Memory comes is ask told none = status_memory asked bytes status is
 
 -- without a fault, the status is that of the outcome
-pub status_of_outcome : (taken taken' : Option (List ℕ)) (output_faults output_faults' : ℕ) (noted noted' : Option (List ℕ)) (notes_faults notes_faults' : ℕ) (status : ℕ) (o : Outcome)
-    → Finishes taken taken' output_faults output_faults' noted noted' notes_faults notes_faults' status o
-    → (Rose output_faults output_faults' → ⊥) → (Rose notes_faults notes_faults' → ⊥) → status ≡ status_of o
-status_of_outcome taken taken' output_faults output_faults' noted noted' notes_faults notes_faults' status (Done text) written heard spoken =
-    whole_of taken taken' output_faults output_faults' text.items 0 status written heard
-status_of_outcome taken taken' output_faults output_faults' noted noted' notes_faults notes_faults' status (SourceRefused line) written heard spoken =
-    whole_of noted noted' notes_faults notes_faults' _ 1 status written spoken
-status_of_outcome taken taken' output_faults output_faults' noted noted' notes_faults notes_faults' status Usage written heard spoken =
-    whole_of noted noted' notes_faults notes_faults' _ 2 status written spoken
-status_of_outcome taken taken' output_faults output_faults' noted noted' notes_faults notes_faults' status TooLong written heard spoken =
-    whole_of noted noted' notes_faults notes_faults' _ 4 status written spoken
-status_of_outcome taken taken' output_faults output_faults' noted noted' notes_faults notes_faults' status (Deep line) written heard spoken =
-    whole_of noted noted' notes_faults notes_faults' _ 4 status written spoken
-status_of_outcome taken taken' output_faults output_faults' noted noted' notes_faults notes_faults' status ReadFault written heard spoken =
-    whole_of noted noted' notes_faults notes_faults' _ 5 status written spoken
-status_of_outcome taken taken' output_faults output_faults' noted noted' notes_faults notes_faults' status Memory written heard spoken =
-    whole_of noted noted' notes_faults notes_faults' _ 7 status written spoken
+pub exact : (words : Option Request) (s output notes : Stream) (Quiet : Type 0) (status : ℕ) (o : Outcome)
+    → ComesTo words s o → Wrote output notes Quiet (output_of o) (notes_of o) (status_of o) status
+    → (asked : Request) → words ≡ Some asked → (Failed s → ⊥) → (Failed output → ⊥) → (Failed notes → ⊥)
+    → (bytes : List ℕ) → s.before ≡ Some bytes → IsStatusOf asked bytes status
+exact words s output notes Quiet status o comes (whole same took noted) asked ask none heard spoken bytes told = status_is words s asked bytes status o comes same ask told none
+exact words s output notes Quiet status o comes (output_cut six broke quiet) asked ask none heard spoken bytes told = absurd (heard broke.failed)
+exact words s output notes Quiet status o comes (notes_cut six took broke) asked ask none heard spoken bytes told = absurd (spoken broke.failed)
 
-pub exact : (words : List (String Global)) (left left' : Option (List ℕ)) (faults faults' : ℕ)
-    (taken taken' : Option (List ℕ)) (output_faults output_faults' : ℕ) (noted noted' : Option (List ℕ)) (notes_faults notes_faults' : ℕ) (status : ℕ) (o : Outcome)
-    → ComesTo words left left' faults faults' o
-    → Finishes taken taken' output_faults output_faults' noted noted' notes_faults notes_faults' status o
-    → is_repair words ≡ true → (Rose faults faults' → ⊥) → (Rose output_faults output_faults' → ⊥) → (Rose notes_faults notes_faults' → ⊥)
-    → (bytes : List ℕ) → left ≡ Some bytes → IsStatusOf bytes status
-exact words left left' faults faults' taken taken' output_faults output_faults' noted noted' notes_faults notes_faults' status o comes written asked none heard spoken bytes told =
-    status_is words bytes left' faults faults' status o
-    (subst (λ l. ComesTo words l left' faults faults' o) told comes)
-    (status_of_outcome taken taken' output_faults output_faults' noted noted' notes_faults notes_faults' status o written heard spoken)
-    asked none
+-- What writing leaves.
+
+-- where nothing is written, nothing is what was appended
+pub nothing_taken : (taken : Option (List ℕ)) → Takes taken taken []
+nothing_taken None = tt
+nothing_taken (Some bytes) = sym (append-nil bytes)
+
+-- a text written to the output alone
+pub output_alone : (output notes : Stream) (Quiet : Type 0) (text : List ℕ) (status result : ℕ)
+    → Written output text status result → Took notes [] → Quiet → Wrote output notes Quiet text [] status result
+output_alone output notes Quiet text status result (inl w) none quiet = whole w.0 w.1 none
+output_alone output notes Quiet text status result (inr w) none quiet = output_cut w.0 w.1 quiet
+
+-- a line written to notes, behind a text on the output
+pub notes_behind : (output notes : Stream) (Quiet : Type 0) (text line : List ℕ) (status result : ℕ)
+    → Took output text → Written notes line status result → Wrote output notes Quiet text line status result
+notes_behind output notes Quiet text line status result took (inl w) = whole w.0 took w.1
+notes_behind output notes Quiet text line status result took (inr w) = notes_cut w.0 took w.1
+
+-- The statuses that there are, and what is left as it was.
+
+status_among : (o : Outcome) → IsStatus (status_of o)
+status_among (outcome.Repaired text) = inl refl
+status_among (outcome.Replayed text line) = inl refl
+status_among (outcome.SourceRefused line) = inr (inl refl)
+status_among outcome.Usage = inr (inr (inl refl))
+status_among outcome.TooLong = inr (inr (inr (inl refl)))
+status_among (outcome.Deep line) = inr (inr (inr (inl refl)))
+status_among outcome.ReadFault = inr (inr (inr (inr (inl refl))))
+status_among outcome.Memory = inr (inr (inr (inr (inr (inr refl)))))
+
+pub statuses_of : (output notes : Stream) (Quiet : Type 0) (status : ℕ) (o : Outcome)
+    → Wrote output notes Quiet (output_of o) (notes_of o) (status_of o) status → IsStatus status
+statuses_of output notes Quiet status o (whole same took noted) = subst IsStatus (sym same) (status_among o)
+statuses_of output notes Quiet status o (output_cut six broke quiet) = inr (inr (inr (inr (inr (inl six)))))
+statuses_of output notes Quiet status o (notes_cut six took broke) = inr (inr (inr (inr (inr (inl six)))))
+
+-- words that ask for nothing come to the usage line, or to want of memory
+pub other_words_of : (output notes : Stream) (Quiet : Type 0) (status : ℕ) (o : Outcome)
+    → Wrote output notes Quiet (output_of o) (notes_of o) (status_of o) status → (o ≡ outcome.Usage) ⊎ (o ≡ outcome.Memory)
+    → (status ≡ 2) ⊎ ((status ≡ 6) ⊎ (status ≡ 7))
+other_words_of output notes Quiet status o (whole same took noted) (inl is) = inl (same ∙ ap status_of is)
+other_words_of output notes Quiet status o (whole same took noted) (inr is) = inr (inr (same ∙ ap status_of is))
+other_words_of output notes Quiet status o (output_cut six broke quiet) h = inr (inl six)
+other_words_of output notes Quiet status o (notes_cut six took broke) h = inr (inl six)
+
+-- a repair that is done says nothing
+quiet_outcome : (words : Option Request) (s : Stream) (o : Outcome) → ComesTo words s o → words ≡ Some request.Repair → status_of o ≡ 0 → is_quiet o ≡ true
+quiet_outcome words s (outcome.Repaired text) comes ask is = refl
+quiet_outcome words s (outcome.Replayed text line) comes ask is =
+    let same : Some (request.Replay comes.cause.0) ≡ Some request.Repair = ap Some (sym comes.cause.1) ∙ sym comes.words_ask ∙ ask in
+    absurd (cc)
+quiet_outcome words s (outcome.SourceRefused line) comes ask is = absurd (let no : ⊥ = omega (arith, is) in no)
+quiet_outcome words s outcome.Usage comes ask is = absurd (let no : ⊥ = omega (arith, is) in no)
+quiet_outcome words s outcome.TooLong comes ask is = absurd (let no : ⊥ = omega (arith, is) in no)
+quiet_outcome words s (outcome.Deep line) comes ask is = absurd (let no : ⊥ = omega (arith, is) in no)
+quiet_outcome words s outcome.ReadFault comes ask is = absurd (let no : ⊥ = omega (arith, is) in no)
+quiet_outcome words s outcome.Memory comes ask is = absurd (let no : ⊥ = omega (arith, is) in no)
+
+pub quiet_of : (words : Option Request) (s output notes : Stream) (Quiet : Type 0) (status : ℕ) (o : Outcome)
+    → ComesTo words s o → Wrote output notes Quiet (output_of o) (notes_of o) (status_of o) status
+    → status ≡ 0 → words ≡ Some request.Repair → is_quiet o ≡ true
+quiet_of words s output notes Quiet status o comes (whole same took noted) is ask = quiet_outcome words s o comes ask (sym same ∙ is)
+quiet_of words s output notes Quiet status o comes (output_cut six broke quiet) is ask = absurd (let no : ⊥ = omega (arith, six, is) in no)
+quiet_of words s output notes Quiet status o comes (notes_cut six took broke) is ask = absurd (let no : ⊥ = omega (arith, six, is) in no)
+
+-- what isn't done prints nothing
+silent_outcome : (o : Outcome) → (status_of o ≡ 0 → ⊥) → prints o ≡ false
+silent_outcome (outcome.Repaired text) other = absurd (other refl)
+silent_outcome (outcome.Replayed text line) other = absurd (other refl)
+silent_outcome (outcome.SourceRefused line) other = refl
+silent_outcome outcome.Usage other = refl
+silent_outcome outcome.TooLong other = refl
+silent_outcome (outcome.Deep line) other = refl
+silent_outcome outcome.ReadFault other = refl
+silent_outcome outcome.Memory other = refl
+
+pub silent_of : (output notes : Stream) (Quiet : Type 0) (status : ℕ) (o : Outcome)
+    → Wrote output notes Quiet (output_of o) (notes_of o) (status_of o) status → (status ≡ 0 → ⊥) → (status ≡ 6 → ⊥) → prints o ≡ false
+silent_of output notes Quiet status o (whole same took noted) other six = silent_outcome o (λ e. other (same ∙ e))
+silent_of output notes Quiet status o (output_cut is broke quiet) other six = absurd (six is)
+silent_of output notes Quiet status o (notes_cut is took broke) other six = absurd (six is)

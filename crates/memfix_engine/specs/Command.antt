@@ -1,61 +1,127 @@
 -- What the command does: its statuses, each with its cause and what was written.
-use Rattle.std.specs.Prelude.{◌≡◌, ◌<◌, ◌≤◌, ◌⊎◌, ℕ, Option, List, length, String, Err}
-use Rattle.std.specs.declared.alloc.Global.{Global}
+use Rattle.std.specs.Prelude.{◌≡◌, ◌<◌, ◌≤◌, ◌⊎◌, ℕ, Option, None, Some, List, length, Err}
 use Rattle.c_lexer.specs.declared.refusal.LexRefusal.{LexRefusal}
 use Rattle.c_lexer.specs.declared.refusal.LexRefusal.TheVariants.{Depth}
 use Rattle.c_lexer.specs.declared.token.Tokens.{Tokens}
 use Rattle.c_lexer.specs.Outcome.{AreTokens, Answers}
+use Rattle.c_meaning.specs.declared.machine.Machine.{Machine}
 use Rattle.c_tree.specs.declared.program.Program.{Program}
-use Rattle.mf_io.specs.Bytes.{Takes}
-use Rattle.mf_io.specs.Faults.{Rose}
-use Rattle.mf_io.specs.Whole.{TakesPart}
-use Rattle.memfix_engine.specs.declared.outcome.Outcome.{Outcome}
-use Rattle.memfix_engine.specs.declared.outcome.Outcome.TheVariants as outcome
-use Rattle.memfix_engine.specs.First.Reads.{IsFirst, ReadsFirst}
+use Rattle.memfix_engine.specs.declared.request.Replay.{Replay}
+use Rattle.memfix_engine.specs.declared.request.Request.{Request}
+use Rattle.memfix_engine.specs.declared.request.Request.TheVariants as request
+use Rattle.memfix_engine.specs.First.Reads.{IsFirst}
+use Rattle.memfix_engine.specs.Notes.{replay_line}
+use Rattle.memfix_engine.specs.Outcome.{IsRead, OfText, IsRefused, IsDeep, IsUsage, IsTooLong, IsReadFault, IsMemory, status_of_lex}
+use Rattle.memfix_engine.specs.Reads.{HasProgram}
 use Rattle.memfix_engine.specs.Refusal.{source_limit}
-use Rattle.memfix_engine.specs.Outcome.{IsRepaired, status_of, status_of_lex, notes_of}
+use Rattle.memfix_engine.specs.Repair.{Repairs}
+use Rattle.memfix_engine.specs.Replay.{Replays}
+use Rattle.memfix_engine.specs.Stream.{Stream, Took, Broke}
 
--- done: the repair of the source's bytes was appended
-pub record Repaired (words : List (String Global)) (left left' taken taken' : Option (List ℕ)) : Type 0 where
+-- Status 0.
+
+-- the repair of the source's bytes was appended to the output
+pub record Repaired (source output : Stream) : Type 0 where
+  pub input : List ℕ
   pub text : List ℕ
-  pub repaired : IsRepaired words left left' text
-  pub takes : Takes taken taken' text
+  pub read : IsRead source input
+  pub repairs : Repairs input text
+  pub took : Took output text
 
--- a line was appended, and this is its cause
-pub record Noted (taken taken' : Option (List ℕ)) (Cause : List ℕ → Type 0) : Type 0 where
+-- what the run printed was appended to the output, and its line to notes
+pub record Replayed (r : Replay) (source output notes : Stream) : Type 0 where
+  pub input : List ℕ
+  pub machine : Machine
+  pub read : IsRead source input
+  pub replays : Replays input r.input r.fails r.steps machine
+  pub printed : Took output machine.output
+  pub noted : Took notes (replay_line input machine)
+
+-- what the words ask for was done
+abbrev pub Done : Option Request → (source output notes : Stream) → Type 0
+Done None source output notes = ⊥
+Done (Some request.Repair) source output notes = Repaired source output
+Done (Some (request.Replay r)) source output notes = Replayed r source output notes
+
+-- The other statuses but 6.
+
+-- the cause of a status, and its line
+pub data Due (words : Option Request) (source : Stream) : ℕ → List ℕ → Type 0 where
+  refused : {line : List ℕ} → OfText words source (λ asked bytes. IsRefused asked bytes line) → Due words source 1 line
+  usage : {line : List ℕ} → IsUsage words line → Due words source 2 line
+  too_long : {line : List ℕ} → IsTooLong words source line → Due words source 4 line
+  too_deep : {line : List ℕ} → OfText words source (λ asked bytes. IsDeep bytes line) → Due words source 4 line
+  read_fault : {line : List ℕ} → IsReadFault words source line → Due words source 5 line
+  memory : {line : List ℕ} → IsMemory line → Due words source 7 line
+
+-- a line was appended to notes, and this is its cause
+pub record Noted (notes : Stream) (Cause : List ℕ → Type 0) : Type 0 where
   pub line : List ℕ
   pub cause : Cause line
-  pub takes : Takes taken taken' line
-
--- the sink failed, and took the front of a piece of which this holds
-pub record Cut (taken taken' : Option (List ℕ)) (faults faults' : ℕ) (IsDue : List ℕ → Type 0) : Type 0 where
-  pub piece : List ℕ
-  pub due : IsDue piece
-  pub part : TakesPart taken taken' piece
-  pub rose : Rose faults faults'
+  pub took : Took notes line
 
 -- the statuses: done, source refused, usage, limit, read fault, write fault, want of memory
 abbrev pub IsStatus : ℕ → Type 0
 IsStatus n = (n ≡ 0) ⊎ ((n ≡ 1) ⊎ ((n ≡ 2) ⊎ ((n ≡ 4) ⊎ ((n ≡ 5) ⊎ ((n ≡ 6) ⊎ (n ≡ 7))))))
 
--- the status of `repair` on these bytes where nothing fails; want of memory may come in its place
-pub record IsStatusOf (bytes : List ℕ) (status : ℕ) : Type 0 where
+-- Status 6.
+
+-- the sink failed at a piece of which this holds
+pub record Cut (s : Stream) (IsDue : List ℕ → Type 0) : Type 0 where
+  pub piece : List ℕ
+  pub due : IsDue piece
+  pub broke : Broke s piece
+
+-- the text may be written for such a request on a text of these bytes
+abbrev pub Prints : Request → (bytes text : List ℕ) → Type 0
+Prints request.Repair bytes text = Repairs bytes text
+Prints (request.Replay r) bytes text = (m : Machine) × Replays bytes r.input r.fails r.steps m × (text ≡ m.output)
+
+-- a line is due, for some status
+abbrev pub IsDue : (words : Option Request) (source : Stream) → List ℕ → Type 0
+IsDue words source line = (status : ℕ) × Due words source status line
+
+-- all that the run printed was appended to the output, and notes failed at its line
+pub record CutLine (words : Option Request) (source output notes : Stream) : Type 0 where
+  pub replay : Replay
+  pub words_ask : words ≡ Some (request.Replay replay)
+  pub input : List ℕ
+  pub machine : Machine
+  pub read : IsRead source input
+  pub replays : Replays input replay.input replay.fails replay.steps machine
+  pub printed : Took output machine.output
+  pub broke : Broke notes (replay_line input machine)
+
+-- a write failed, and what had not been written then is as it was
+abbrev pub WriteFault : (words : Option Request) (source output notes : Stream) (Untouched Quiet : Type 0) → Type 0
+WriteFault words source output notes Untouched Quiet =
+    (Cut output (λ text. OfText words source (λ asked bytes. Prints asked bytes text)) × Quiet)
+    ⊎ ((Cut notes (IsDue words source) × Untouched) ⊎ CutLine words source output notes)
+
+-- Exactness.
+
+-- tokens that are accepted, by what is asked for
+abbrev pub Accepts : Request → Tokens → Type 0
+Accepts request.Repair tokens = (p : Program) × IsFirst tokens.list p
+Accepts (request.Replay r) tokens = (p : Program) × HasProgram tokens p
+
+-- the status for these bytes where nothing fails; want of memory may come in its place
+pub record IsStatusOf (asked : Request) (bytes : List ℕ) (status : ℕ) : Type 0 where
   pub too_long : source_limit < length bytes → (status ≡ 4) ⊎ (status ≡ 7)
-  pub reads : length bytes ≤ source_limit → (program : Program) → ReadsFirst bytes program → (status ≡ 0) ⊎ (status ≡ 7)
   pub lexical : length bytes ≤ source_limit → (refusal : LexRefusal) → Answers bytes (Err refusal) → status_of_lex refusal ≡ 1 → (status ≡ 1) ⊎ (status ≡ 7)
   pub deep : length bytes ≤ source_limit → (at : ℕ) → Answers bytes (Err (Depth at)) → (status ≡ 4) ⊎ (status ≡ 7)
-  pub not_built : length bytes ≤ source_limit → (tokens : Tokens) → AreTokens bytes tokens → ((program : Program) → IsFirst tokens.list program → ⊥)
-      → (status ≡ 1) ⊎ (status ≡ 7)
+  pub accepted : length bytes ≤ source_limit → (tokens : Tokens) → AreTokens bytes tokens → Accepts asked tokens → (status ≡ 0) ⊎ (status ≡ 7)
+  pub other : length bytes ≤ source_limit → (tokens : Tokens) → AreTokens bytes tokens → (Accepts asked tokens → ⊥) → (status ≡ 1) ⊎ (status ≡ 7)
+
+-- What writing leaves.
 
 -- the piece was appended and the status is this, or the sink failed and the status is 6
-abbrev pub Written : (taken taken' : Option (List ℕ)) (faults faults' : ℕ) (piece : List ℕ) (status result : ℕ) → Type 0
-Written taken taken' faults faults' piece status result =
-    ((result ≡ status) × Takes taken taken' piece)
-    ⊎ ((result ≡ 6) × TakesPart taken taken' piece × Rose faults faults')
+abbrev pub Written : (s : Stream) (piece : List ℕ) (status result : ℕ) → Type 0
+Written s piece status result = ((result ≡ status) × Took s piece) ⊎ ((result ≡ 6) × Broke s piece)
 
--- what is due was written: a repaired text to the output, a line to notes
-abbrev pub Finishes : (taken taken' : Option (List ℕ)) (faults faults' : ℕ) (noted noted' : Option (List ℕ)) (notes_faults notes_faults' : ℕ) (status : ℕ) → Outcome → Type 0
-Finishes taken taken' faults faults' noted noted' notes_faults notes_faults' status (outcome.Done text) =
-    Written taken taken' faults faults' text.items 0 status
-Finishes taken taken' faults faults' noted noted' notes_faults notes_faults' status o =
-    Written noted noted' notes_faults notes_faults' (notes_of o) (status_of o) status
+-- the text was appended to the output and then the line to notes, and the status is this; or one of them failed, and the
+-- status is 6
+pub data Wrote (output notes : Stream) (Quiet : Type 0) (text line : List ℕ) (status result : ℕ) : Type 0 where
+  whole : result ≡ status → Took output text → Took notes line → Wrote output notes Quiet text line status result
+  output_cut : result ≡ 6 → Broke output text → Quiet → Wrote output notes Quiet text line status result
+  notes_cut : result ≡ 6 → Took output text → Broke notes line → Wrote output notes Quiet text line status result

@@ -5,6 +5,7 @@ pub mod Choice
 pub mod Form
 pub mod Gathered
 pub mod Names
+pub mod Others
 pub mod Own
 pub mod Prefix
 pub mod Progress

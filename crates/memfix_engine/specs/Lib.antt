@@ -3,5 +3,9 @@ pub mod Edit
 pub mod First
 pub mod Notes
 pub mod Outcome
+pub mod Reads
 pub mod Refusal
 pub mod Repair
+pub mod Replay
+pub mod Request
+pub mod Stream

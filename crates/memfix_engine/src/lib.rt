@@ -1,15 +1,20 @@
-//! The repair of a C text, from bytes to bytes.
+//! The repair and the replay of a C text, from bytes to bytes.
 #![tactic(auto)]
 
 mod command;
+mod constructs;
 mod edit;
 mod first_form;
 mod notes;
 mod outcome;
 mod refusal;
 mod repairs;
+mod replays;
+mod request;
+mod source;
 
 pub use command::memfix;
-pub use first_form::reading::read_source;
-pub use refusal::{RepairRefusal, SourceRefusal};
+pub use refusal::{RepairRefusal, ReplayRefusal, SourceRefusal};
 pub use repairs::{SOURCE_LIMIT, repair};
+pub use replays::replay;
+pub use source::read_source;

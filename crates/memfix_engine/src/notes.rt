@@ -1,75 +1,17 @@
 //! The lines on notes.
-ghost use Rattle.std.specs.Prelude.{◌≡◌, length, take_while, reverse, not, IfOk, string_bytes, unwrap_or, slice_get, map, []};
-ghost use Rattle.memfix_engine.specs.Notes.{is_newline, line_number, column_number, place_line, line_at, row_text, construct_text, lex_line, source_line, usage_line, too_long_line, read_fault_line, memory_line};
+ghost use Rattle.std.specs.Prelude.{◌≡◌, ◌++◌, Bool, codes, length, take_while, reverse, not, IfOk, string_bytes};
+ghost use Rattle.std.specs.Fmt.{signed_decimal};
+ghost use Rattle.c_meaning.specs.declared.machine.Ending.TheVariants.{Fault};
+ghost use Rattle.memfix_engine.specs.Notes.{is_newline, line_number, column_number, place_text, place_line, line_at, construct_text, lex_line, parse_line, rule_text, type_line, source_line, usage_line, too_long_line, read_fault_line, memory_line, at_text, ending_text, steps_text, live_text, replay_line};
 
+use crate::constructs::row_text;
 use crate::refusal::SourceRefusal;
 use c_lexer::LexRefusal;
+use c_meaning::{Ending, Kind, Machine, kind_text};
+use c_parser::ParseRefusal;
+use c_replay::live;
+use c_types::TypeRefusal;
 use std::alloc::{AllocError, Global};
-
-const MEMORY_LINE: &str = "memfix: out of memory\n";
-
-/// The texts of the lexer's refused rows.
-const ROW_TEXTS: [&str; 59] = [
-    "_Bool",
-    "_Complex",
-    "_Imaginary",
-    "abort",
-    "assert",
-    "atexit",
-    "auto",
-    "calloc",
-    "case",
-    "char",
-    "const",
-    "default",
-    "do",
-    "double",
-    "enum",
-    "exit",
-    "extern",
-    "float",
-    "goto",
-    "inline",
-    "long",
-    "longjmp",
-    "realloc",
-    "register",
-    "restrict",
-    "setjmp",
-    "short",
-    "signed",
-    "static",
-    "switch",
-    "union",
-    "unsigned",
-    "volatile",
-    "directive",
-    "directive",
-    "digraph",
-    "digraph",
-    "remainder assignment",
-    "digraph",
-    "address-of or bit-and",
-    "bit assignment",
-    "member of a struct value",
-    "variable arguments",
-    "quotient assignment",
-    "label or conditional",
-    "digraph",
-    "digraph",
-    "digraph",
-    "left shift",
-    "left shift",
-    "right shift",
-    "right shift",
-    "conditional operator",
-    "bit-xor",
-    "bit-xor",
-    "bit-or",
-    "bit-or",
-    "bit-not",
-    "number form",
-];
 
 fn last_line_len(before: &[u8]) -> usize
     ensures { result ≡ length (take_while (λ c. not (is_newline c)) (reverse before.now)) }
@@ -89,57 +31,97 @@ fn line_and_column(bytes: &[u8], at: usize) -> (usize, usize)
     (line + 1, last_line_len(before) + 1)
 }
 
-fn place_line(alloc: Global, line: usize, column: usize, text: &str) -> Result<String, AllocError>
-    ensures { IfOk result (λ s. string_bytes s ≡ place_line line column text.now) }
+fn place_text(alloc: Global, line: usize, column: usize) -> Result<String, AllocError>
+    ensures { IfOk result (λ s. string_bytes s ≡ place_text line column) }
 {
-    format!(in alloc; "memfix: line {line}, column {column}: {text}\n")
+    format!(in alloc; "memfix: line {line}, column {column}: ")
+}
+
+fn place_line(alloc: Global, line: usize, column: usize, text: &[u8]) -> Result<Vec<u8>, AllocError>
+    ensures { IfOk result (λ l. l.items ≡ place_line line column text.now) }
+{
+    let place = place_text(alloc, line, column)?;
+    let mut bytes = Vec::new(alloc);
+    bytes.extend_from_slice(place.as_bytes())?;
+    bytes.extend_from_slice(text)?;
+    bytes.extend_from_slice(b"\n")?;
+    Ok(bytes)
 }
 
 /// The line of a text that speaks of an offset.
-fn line_at(alloc: Global, bytes: &[u8], at: usize, text: &str) -> Result<String, AllocError>
-    ensures { IfOk result (λ line. string_bytes line ≡ line_at bytes.now at text.now) }
+fn line_at(alloc: Global, bytes: &[u8], at: usize, text: &[u8]) -> Result<Vec<u8>, AllocError>
+    ensures { IfOk result (λ line. line.items ≡ line_at bytes.now at text.now) }
 {
     let (line, column) = line_and_column(bytes, at);
     place_line(alloc, line, column, text)
 }
 
-fn text_at(texts: &'static [&'static str], place: usize) -> &'static str
-    ensures { result.now ≡ unwrap_or (slice_get (map (λ t. t.now) texts.now) place) [] }
+fn construct_text(alloc: Global, row: u16) -> Result<Vec<u8>, AllocError>
+    ensures { IfOk result (λ text. text.items ≡ construct_text row) }
 {
-    match texts.get(place) {
-        Some(text) => text,
-        None => "",
+    let mut text = Vec::new(alloc);
+    text.extend_from_slice(b"not in the profile: ")?;
+    text.extend_from_slice(row_text(row))?;
+    Ok(text)
+}
+
+fn construct_line(alloc: Global, bytes: &[u8], row: u16, at: usize) -> Result<Vec<u8>, AllocError>
+    ensures { IfOk result (λ line. line.items ≡ line_at bytes.now at (construct_text row)) }
+{
+    let text = construct_text(alloc, row)?;
+    line_at(alloc, bytes, at, text.as_slice())
+}
+
+fn lex_line(alloc: Global, bytes: &[u8], refusal: LexRefusal) -> Result<Vec<u8>, AllocError>
+    ensures { IfOk result (λ line. line.items ≡ lex_line bytes.now refusal) }
+{
+    match refusal {
+        LexRefusal::BadByte(at) => line_at(alloc, bytes, at, b"byte not allowed here"),
+        LexRefusal::OpenComment(at) => line_at(alloc, bytes, at, b"comment without an end"),
+        LexRefusal::OpenText(at) => line_at(alloc, bytes, at, b"text without an end"),
+        LexRefusal::BadEscape(at) => line_at(alloc, bytes, at, b"escape not in the profile"),
+        LexRefusal::WideNumber(at) => line_at(alloc, bytes, at, b"number too large"),
+        LexRefusal::Construct(row, at) => construct_line(alloc, bytes, row, at),
+        LexRefusal::Depth(at) => line_at(alloc, bytes, at, b"limit: more than 256 levels"),
+        LexRefusal::Memory => Vec::from_slice(alloc, memory_line()),
     }
 }
 
-fn row_text(row: u16) -> &'static str
-    ensures { result.now ≡ row_text row }
-{
-    text_at(&ROW_TEXTS, usize::from(row))
-}
-
-fn construct_text(alloc: Global, row: u16) -> Result<String, AllocError>
-    ensures { IfOk result (λ text. string_bytes text ≡ construct_text row) }
-{
-    let text = row_text(row);
-    format!(in alloc; "not in the profile: {text}")
-}
-
-fn lex_line(alloc: Global, bytes: &[u8], refusal: LexRefusal) -> Result<String, AllocError>
-    ensures { IfOk result (λ line. string_bytes line ≡ lex_line bytes.now refusal) }
+fn parse_line(alloc: Global, bytes: &[u8], refusal: ParseRefusal) -> Result<Vec<u8>, AllocError>
+    ensures { IfOk result (λ line. line.items ≡ parse_line bytes.now refusal) }
 {
     match refusal {
-        LexRefusal::BadByte(at) => line_at(alloc, bytes, at, "byte not allowed here"),
-        LexRefusal::OpenComment(at) => line_at(alloc, bytes, at, "comment without an end"),
-        LexRefusal::OpenText(at) => line_at(alloc, bytes, at, "text without an end"),
-        LexRefusal::BadEscape(at) => line_at(alloc, bytes, at, "escape not in the profile"),
-        LexRefusal::WideNumber(at) => line_at(alloc, bytes, at, "number too large"),
-        LexRefusal::Construct(row, at) => {
-            let text = construct_text(alloc, row)?;
-            line_at(alloc, bytes, at, text.as_str())
-        }
-        LexRefusal::Depth(at) => line_at(alloc, bytes, at, "limit: more than 256 levels"),
-        LexRefusal::Memory => String::from_str(alloc, MEMORY_LINE),
+        ParseRefusal::Syntax(at) => line_at(alloc, bytes, at, b"syntax"),
+        ParseRefusal::Memory => Vec::from_slice(alloc, memory_line()),
+    }
+}
+
+fn rule_text(alloc: Global, rule: u16) -> Result<String, AllocError>
+    ensures { IfOk result (λ text. string_bytes text ≡ rule_text rule) }
+{
+    format!(in alloc; "type rule {rule}")
+}
+
+fn rule_line(alloc: Global, bytes: &[u8], rule: u16, at: usize) -> Result<Vec<u8>, AllocError>
+    ensures { IfOk result (λ line. line.items ≡ line_at bytes.now at (rule_text rule)) }
+{
+    let text = rule_text(alloc, rule)?;
+    line_at(alloc, bytes, at, text.as_bytes())
+}
+
+fn type_line(alloc: Global, bytes: &[u8], refusal: TypeRefusal) -> Result<Vec<u8>, AllocError>
+    ensures { IfOk result (λ line. line.items ≡ type_line bytes.now refusal) }
+{
+    match refusal {
+        TypeRefusal::Unknown(at) => line_at(alloc, bytes, at, b"unknown name"),
+        TypeRefusal::Twice(at) => line_at(alloc, bytes, at, b"declared twice"),
+        TypeRefusal::Hidden(at) => line_at(alloc, bytes, at, b"hides an outer name"),
+        TypeRefusal::Wrong(rule, at) => rule_line(alloc, bytes, rule, at),
+        TypeRefusal::Recursion(at) => line_at(alloc, bytes, at, b"recursion"),
+        TypeRefusal::NoMain => line_at(alloc, bytes, bytes.len(), b"no definition of main"),
+        TypeRefusal::NoValue(at) => line_at(alloc, bytes, at, b"a path ends without a value"),
+        TypeRefusal::Jump(at) => line_at(alloc, bytes, at, b"jump outside a loop"),
+        TypeRefusal::Memory => Vec::from_slice(alloc, memory_line()),
     }
 }
 
@@ -148,13 +130,15 @@ pub(crate) fn source_line(
     alloc: Global,
     bytes: &[u8],
     refusal: SourceRefusal,
-) -> Result<String, AllocError>
-    ensures { IfOk result (λ line. string_bytes line ≡ source_line bytes.now refusal) }
+) -> Result<Vec<u8>, AllocError>
+    ensures { IfOk result (λ line. line.items ≡ source_line bytes.now refusal) }
 {
     match refusal {
         SourceRefusal::Lex(refusal) => lex_line(alloc, bytes, refusal),
-        SourceRefusal::NotBuilt(at) => line_at(alloc, bytes, at, "not built yet"),
-        SourceRefusal::Memory => String::from_str(alloc, MEMORY_LINE),
+        SourceRefusal::Parse(refusal) => parse_line(alloc, bytes, refusal),
+        SourceRefusal::Resolve(refusal) => type_line(alloc, bytes, refusal),
+        SourceRefusal::NotBuilt(at) => line_at(alloc, bytes, at, b"not built yet"),
+        SourceRefusal::Memory => Vec::from_slice(alloc, memory_line()),
     }
 }
 
@@ -179,5 +163,69 @@ pub(crate) fn read_fault_line() -> &'static [u8]
 pub(crate) fn memory_line() -> &'static [u8]
     ensures { result.now ≡ memory_line }
 {
-    MEMORY_LINE.as_bytes()
+    b"memfix: out of memory\n"
+}
+
+fn at_text(alloc: Global, line: usize, column: usize) -> Result<String, AllocError>
+    ensures { IfOk result (λ s. string_bytes s ≡ at_text line column) }
+{
+    format!(in alloc; " at line {line}, column {column}")
+}
+
+fn fault_text(alloc: Global, bytes: &[u8], kind: Kind, at: usize) -> Result<Vec<u8>, AllocError>
+    ensures { (by_free : Bool) → IfOk result (λ text. text.items ≡ ending_text bytes.now (Fault kind at by_free)) }
+{
+    let (line, column) = line_and_column(bytes, at);
+    let place = at_text(alloc, line, column)?;
+    let mut text = Vec::new(alloc);
+    text.extend_from_slice(kind_text(kind))?;
+    text.extend_from_slice(place.as_bytes())?;
+    Ok(text)
+}
+
+fn returned_text(alloc: Global, answer: i32) -> Result<Vec<u8>, AllocError>
+    ensures { IfOk result (λ text. text.items ≡ codes "returned " ++ signed_decimal answer) }
+{
+    let text = format!(in alloc; "returned {answer}")?;
+    Vec::from_slice(alloc, text.as_bytes())
+}
+
+fn ending_text(alloc: Global, bytes: &[u8], ending: Ending) -> Result<Vec<u8>, AllocError>
+    ensures { IfOk result (λ text. text.items ≡ ending_text bytes.now ending) }
+{
+    match ending {
+        Ending::Running => Vec::from_slice(alloc, b"running"),
+        Ending::Returned(answer) => returned_text(alloc, answer),
+        Ending::Fault(kind, at, _) => fault_text(alloc, bytes, kind, at),
+    }
+}
+
+fn steps_text(alloc: Global, steps: u64) -> Result<String, AllocError>
+    ensures { IfOk result (λ s. string_bytes s ≡ steps_text steps) }
+{
+    format!(in alloc; "memfix: {steps} steps, ")
+}
+
+fn live_text(alloc: Global, live: usize) -> Result<String, AllocError>
+    ensures { IfOk result (λ s. string_bytes s ≡ live_text live) }
+{
+    format!(in alloc; ", {live} live\n")
+}
+
+/// The line of a replay.
+pub(crate) fn replay_line(
+    alloc: Global,
+    bytes: &[u8],
+    machine: &Machine,
+) -> Result<Vec<u8>, AllocError>
+    ensures { IfOk result (λ line. line.items ≡ replay_line bytes.now machine.now) }
+{
+    let steps = steps_text(alloc, machine.steps)?;
+    let ending = ending_text(alloc, bytes, machine.ending)?;
+    let alive = live_text(alloc, live(machine))?;
+    let mut line = Vec::new(alloc);
+    line.extend_from_slice(steps.as_bytes())?;
+    line.extend_from_slice(ending.as_slice())?;
+    line.extend_from_slice(alive.as_bytes())?;
+    Ok(line)
 }

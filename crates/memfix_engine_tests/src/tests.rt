@@ -16,6 +16,9 @@ const ONE_REPAIRED: &str =
 const GUARDED: &str =
     "int main(void) { int *p = malloc(sizeof(int)); if (p == NULL) { return 1; } *p = 7; printf(\"%d\\n\", *p); return 0; }";
 
+const ECHO: &str =
+    "int main(void) { int c = getchar(); putchar(c); c = getchar(); putchar(c); c = getchar(); return c; }";
+
 // A free before a store.
 const EARLY: &str = "int main(void) { int *a = malloc(sizeof(int)); free(a); *a = 1; return 0; }";
 
@@ -99,6 +102,38 @@ fn each_call_has_its_status_and_its_bytes(rt: HostRuntime) -> Result<(), Fail> {
             "",
             "memfix: line 1, column 48: not built yet\n",
         ),
+        (
+            "replay --steps 9",
+            GUARDED,
+            (0, 0, 0),
+            0,
+            "7\n",
+            "memfix: 5 steps, returned 0, 1 live\n",
+        ),
+        (
+            "replay --steps 9 --fails 1",
+            GUARDED,
+            (0, 0, 0),
+            0,
+            "",
+            "memfix: 3 steps, returned 1, 0 live\n",
+        ),
+        // What getchar reads is the input, and then its end.
+        (
+            "replay --steps 9 --input ab",
+            ECHO,
+            (0, 0, 0),
+            0,
+            "ab",
+            "memfix: 6 steps, returned -1, 0 live\n",
+        ),
+        ("replay --steps", ONE, (0, 0, 0), 2, "", USAGE),
+        ("replay --steps 10000001", ONE, (0, 0, 0), 2, "", USAGE),
+        ("replay --steps 1 --fails 2", ONE, (0, 0, 0), 2, "", USAGE),
+        ("replay --steps 1 --input -1", ONE, (0, 0, 0), 2, "", USAGE),
+        // The output fails, and then notes.
+        ("replay --steps 9", GUARDED, (0, 1, 0), 6, "", ""),
+        ("replay --steps 9", GUARDED, (0, 0, 1), 6, "7\n", ""),
         ("repair --loud", ONE, (0, 0, 0), 2, "", USAGE),
         ("", ONE, (0, 0, 0), 2, "", USAGE),
         // A fault in mid-stream.
@@ -142,12 +177,46 @@ fn each_refused_text_has_its_line(rt: HostRuntime) -> Result<(), Fail> {
         ),
         // A lexical fault comes before a refused token that stands before it.
         ("auto @", "line 1, column 6: byte not allowed here"),
-        ("", "line 1, column 1: not built yet"),
-        ("int main(void) {\n}", "line 2, column 1: not built yet"),
+        // A lexical fault comes before a missing semicolon, and that before an unknown name.
         (
-            "int main(void) { return 0;\n",
-            "line 2, column 1: not built yet",
+            "int main(void) { x = 1; return 0 } @",
+            "line 1, column 36: byte not allowed here",
         ),
+        (
+            "int main(void) { x = 1; return 0 }",
+            "line 1, column 34: syntax",
+        ),
+        (
+            "int main(void) { x = 1; return 0; }",
+            "line 1, column 18: unknown name",
+        ),
+        ("int main(void) { return 0;\n", "line 2, column 1: syntax"),
+        (
+            "int main(void) { int x; int x; return 0; }",
+            "line 1, column 29: declared twice",
+        ),
+        (
+            "int x; int main(void) { int x; return 0; }",
+            "line 1, column 29: hides an outer name",
+        ),
+        (
+            "int f(int a) { return a; } int main(void) { int r; r = f(); return r; }",
+            "line 1, column 58: type rule 6",
+        ),
+        (
+            "int f(void) { } int main(void) { return 0; }",
+            "line 1, column 15: a path ends without a value",
+        ),
+        (
+            "int main(void) { break; return 0; }",
+            "line 1, column 18: jump outside a loop",
+        ),
+        (
+            "void f(void) { f(); } int main(void) { return 0; }",
+            "line 1, column 16: recursion",
+        ),
+        ("int x;\n", "line 2, column 1: no definition of main"),
+        ("int main(void) {\n}", "line 2, column 1: not built yet"),
     ] {
         let call = Call {
             words: "repair",
@@ -190,7 +259,7 @@ fn each_limit_has_its_line(rt: HostRuntime) -> Result<(), Fail> {
             b' ',
             SOURCE_LIMIT,
             1,
-            "line 1, column 1048577: not built yet",
+            "line 1, column 1048577: no definition of main",
         ),
         (
             b'(',
@@ -198,7 +267,7 @@ fn each_limit_has_its_line(rt: HostRuntime) -> Result<(), Fail> {
             4,
             "line 1, column 257: limit: more than 256 levels",
         ),
-        (b'(', 256, 1, "line 1, column 1: not built yet"),
+        (b'(', 256, 1, "line 1, column 1: syntax"),
     ] {
         let (status, notes) = answer_of_many(rt.alloc(), byte, count)?;
         let said = format!(in rt.alloc(); "memfix: {line}\n")?;

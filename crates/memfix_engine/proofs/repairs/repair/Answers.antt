@@ -1,11 +1,12 @@
 -- What is written is the edit of the source that is read.
-use Rattle.std.proofs.Common.{◌≡◌, rules, sym, subst}
+use Rattle.std.proofs.Common.{◌≡◌, ◌≤◌, length, rules, sym, subst}
 use Rattle.memfix_engine.specs.Edit.{edited, AreInOrder}
 use Rattle.memfix_engine.specs.First.Choice.{choice_of}
 use Rattle.memfix_engine.specs.First.Source.{IsSource}
-use Rattle.memfix_engine.specs.declared.refusal.RepairRefusal.TheVariants.{Source}
-use Rattle.memfix_engine.specs.Refusal.{RefusesRepair}
-use Rattle.memfix_engine.proofs.First.ReadsLemmas.{repair_refused_only}
+use Rattle.memfix_engine.specs.First.Others.{RefusesText}
+use Rattle.memfix_engine.specs.Refusal.{source_limit}
+use Rattle.memfix_engine.specs.Repair.{RefusesRepair}
+use Rattle.memfix_engine.proofs.First.ReadsLemmas.{repair_refused, repair_refused_only}
 use Rattle.memfix_engine.proofs.First.RepairLemmas.{numbered_source, ordered_source, repaired_source}
 use Rattle.memfix_engine.proofs.repairs.repair.Goals as goal
 
@@ -27,5 +28,7 @@ returns-clause-repairs c =
 
 pub returns-in-Err : goal.returns-in-Err
 returns-in-Err c =
-    let refused : RefusesRepair c.args.bytes.now (Source c.in-Err.refusal) = search rules in
-    record { repairs = tt; fits = tt; refused = refused; only = repair_refused_only c.args.bytes.now (Source c.in-Err.refusal) refused }
+    let fits : length c.args.bytes.now ≤ source_limit = search rules in
+    let refuses : RefusesText c.args.bytes.now c.in-Err.refusal = search rules in
+    let refused : RefusesRepair c.args.bytes.now c.refusal_of.result = subst (RefusesRepair c.args.bytes.now) (sym c.refusal_of.ensures) (repair_refused c.args.bytes.now c.in-Err.refusal fits refuses) in
+    record { repairs = tt; fits = tt; refused = refused; only = repair_refused_only c.args.bytes.now c.refusal_of.result refused }
