@@ -5,3 +5,4 @@ mod NotesExamples
 pub mod NotesLemmas
 pub mod ReadsLemmas
 pub mod RequestLemmas
+pub mod TextFits

@@ -2,6 +2,7 @@
 ghost use Rattle.std.specs.Prelude.{◌≡◌, IfOk, IfErr, Ok};
 ghost use Rattle.c_lexer.specs.Outcome.{AreTokens};
 ghost use Rattle.c_parser.specs.Answer.{IsAnswer as IsParsed};
+ghost use Rattle.c_tree.specs.WellFormed.{IsWellFormed};
 ghost use Rattle.c_tree.specs.declared.program.Program.{Program};
 ghost use Rattle.c_types.specs.Program.{IsAnswer as IsResolved};
 ghost use Rattle.memfix_engine.specs.Reads.{HasProgram, Reads, ReadsWithin};
@@ -65,6 +66,7 @@ pub(crate) fn program_of(alloc: Global, tokens: &Tokens) -> Result<Program, Sour
 pub fn read_source(alloc: Global, bytes: &[u8]) -> Result<Program, SourceRefusal>
     ensures reads { IfOk result (Reads bytes.now) }
     ensures within { IfOk result (ReadsWithin bytes.now) }
+    ensures well_formed { IfOk result IsWellFormed }
     ensures refused { IfErr result (RefusesSource bytes.now) }
     // It is refused only where it is no such text, or for want of memory.
     ensures only { IfErr result (λ r. (r ≡ Memory → ⊥) → (p : Program) → ReadsWithin bytes.now p → ⊥) }
