@@ -32,7 +32,7 @@ mod ScopeNumbers
 mod ScopeOrder
 mod SightLaws
 mod StatementLaws
-pub mod Visible
+pub mod VisibleParts
 pub mod VisibleBlocks
 pub mod TypedBlocks
 pub mod TypedCalls

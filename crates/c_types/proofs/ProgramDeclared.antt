@@ -57,7 +57,7 @@ use Rattle.c_types.proofs.NumberingTops.{gap_tops, heading_quiet, struct_quiet}
 use Rattle.c_types.proofs.Passing.{headed, with_params, inside, left, made_of, params_grow, inside_grows, own_names, named_more}
 use Rattle.c_types.proofs.Rows.{found_one, found_either}
 use Rattle.c_types.proofs.Standing.{left_names}
-use Rattle.c_types.proofs.Visible.{Covers, covers_on, based_names, tagged_names}
+use Rattle.c_types.proofs.VisibleParts.{Covers, covers_on, based_names, tagged_names}
 use Rattle.c_types.proofs.VisibleBlocks.{declared_covers, block_sees}
 
 -- what a block declares, as it is listed

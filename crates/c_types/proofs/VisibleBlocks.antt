@@ -49,7 +49,7 @@ use Rattle.c_types.proofs.BlockInduction.{Reading, Law, Chain, done, next, of_it
 use Rattle.c_types.proofs.Growing.{head_grows, gap_grows, growing_law}
 use Rattle.c_types.proofs.Rows.{found_one, found_either}
 use Rattle.c_types.proofs.Standing.{Grows, grows_all, grows_both, closes, left_names}
-use Rattle.c_types.proofs.Visible.{shown, Covers, covers_on, judged_shown, judged_shows, CallShows, call_shows, call_names, right_shows, right_names, assigned_shown, initial_shown, returned_shown, based_names}
+use Rattle.c_types.proofs.VisibleParts.{shown, Covers, covers_on, judged_shown, judged_shows, CallShows, call_shows, call_names, right_shows, right_names, assigned_shown, initial_shown, returned_shown, based_names}
 
 -- a part leads from what is visible before it to what is visible behind it
 pub record Leads (u : Walk) (s : seen_in.Scope) (seen : List ℕ) : Type 0 where
