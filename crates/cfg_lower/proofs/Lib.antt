@@ -1,0 +1,14 @@
+pub mod Arms
+pub mod Backs
+pub mod Ascending
+pub mod Grown
+pub mod Listings
+pub mod Locksteps
+pub mod LoneTests
+pub mod Numbering
+pub mod Paths
+pub mod Ranked
+pub mod RowLaws
+pub mod SlotLaws
+pub mod SourceLaws
+pub mod Turns

@@ -1,0 +1,8 @@
+use Rattle.std.proofs.Common.{◌≡◌, ◌++◌, map, drop, None}
+use Rattle.c_meaning.specs.Parts.{One, started}
+use Rattle.cfg_lower.specs.Listing.{parts_below}
+use Rattle.cfg_lower.proofs.listing.add_starts.Given as goal
+
+abbrev pub invariant-loop-k : goal.invariant-loop-k
+invariant-loop-k l =
+    l.fn.list ++ parts_below None l.prefix 0 (map (λ s. One (started s)) l.starts) ≡ l.list ++ parts_below None l.prefix l.k (map (λ s. One (started s)) (drop l.k l.starts))

@@ -1,0 +1,9 @@
+pub mod Layers
+pub mod Meant
+pub mod Listing
+pub mod Ranks
+pub mod Rows
+pub mod Slots
+pub mod Growth
+pub mod Lockstep
+pub mod Sources

@@ -1,0 +1,11 @@
+//! Tests of the control flow graph, from the texts of programs.
+#![tactic(auto)]
+
+#[cfg(test)]
+mod limits;
+#[cfg(test)]
+mod programs;
+#[cfg(test)]
+mod shown;
+#[cfg(test)]
+mod tests;
