@@ -1,0 +1,13 @@
+//! Which sites flow to which pointer variables and fields.
+#![tactic(auto)]
+
+mod answers;
+mod bounds;
+mod flows;
+mod found;
+mod start;
+mod table;
+mod writes;
+mod writing;
+
+pub use flows::may;
