@@ -1,0 +1,17 @@
+//! What the analyses speak of: pointing expressions, sites, puts, what the edges of a graph do to pointers, facts and marks.
+#![tactic(auto)]
+
+mod deed;
+mod facts;
+mod looks;
+mod marks;
+mod names;
+mod pointers;
+mod triples;
+
+pub use deed::{Deed, Looked, Saying, Source};
+pub use facts::{Facts, May, Path};
+pub use marks::{Alias, Mark, Step};
+pub use names::{Names, Read};
+pub use pointers::Pointer;
+pub use triples::{Derived, Triple};
