@@ -23,12 +23,13 @@ use Rattle.c_graph.specs.declared.graph.Graph.{Graph}
 use Rattle.c_graph.specs.declared.graph.Node.{Node}
 use Rattle.c_graph.specs.declared.graph.NodeKind.{NodeKind}
 use Rattle.c_graph.specs.declared.graph.NodeKind.TheVariants as kind
-use Rattle.c_graph.specs.Executes.{function_of}
+use Rattle.c_graph.specs.Executes.{callee_in, function_of}
 use Rattle.c_graph.specs.declared.graph.Way.{Way}
 use Rattle.c_graph.specs.declared.graph.Way.TheVariants as way
 use Rattle.ts_domain.specs.declared.deed.Deed.{Deed}
 use Rattle.ts_domain.specs.declared.deed.Deed.TheVariants.{Reads, Says, Sets, SetsField}
 use Rattle.ts_domain.specs.declared.deed.Looked.{Looked}
+use Rattle.ts_domain.specs.declared.edges.Binding.{Binding}
 use Rattle.ts_domain.specs.declared.deed.Looked.TheVariants as looked
 use Rattle.ts_domain.specs.declared.deed.Saying.TheVariants.{IsNull, IsntNull, AreEqual, Differ}
 use Rattle.ts_domain.specs.declared.deed.Source.{Source}
@@ -185,40 +186,47 @@ said n way.True e = tested n true e
 said n way.False e = tested n false e
 said n w e = []
 
+abbrev pub test_deeds : Names → Way → Expr → List Deed
+test_deeds n w e = value_deeds n false e ++ said n w e
+
 -- calls and returns
 
--- an argument is noted where its parameter is a pointer
-abbrev pub argument_deeds : Names → ℕ → Expr → List Deed
-argument_deeds n x e = value_deeds n (is_some (place_of n x)) e
-
--- the arguments in order
-abbrev pub arguments_deeds : Names → List ℕ → List Expr → List Deed
-arguments_deeds n (x ∷ xs) (e ∷ es) = argument_deeds n x e ++ arguments_deeds n xs es
-arguments_deeds n [] es = []
-arguments_deeds n (x ∷ xs) [] = []
-
--- a parameter gets its argument (6.5.2.2p4)
+-- a write to a variable, if there is both (6.5.2.2p4)
 abbrev pub bound : Option ℕ → Option Source → List Deed
 bound k None = []
 bound k (Some v) = sets k v
 
--- the parameters in order; `before` are the reads before the argument
-abbrev pub all_bound : Names → List Deed → List ℕ → List Expr → List Deed
-all_bound n before (x ∷ xs) (e ∷ es) = bound (place_of n x) (source_of n before e) ++ all_bound n (before ++ argument_deeds n x e) xs es
-all_bound n before [] es = []
-all_bound n before (x ∷ xs) [] = []
+-- one argument more for its parameter, behind the reads of those before it; it is noted where the parameter is a pointer
+abbrev pub bound_argument : Names → Binding → ℕ × Expr → Binding
+bound_argument n b a = record {
+  reads = b.reads ++ value_deeds n (is_some (place_of n a.0)) a.1;
+  writes = b.writes ++ bound (place_of n a.0) (source_of n b.reads a.1);
+}
 
--- into function f
-abbrev pub call_deeds : Names → ℕ → List Expr → List Deed
-call_deeds n f es = arguments_deeds n (parameters n f) es ++ all_bound n [] (parameters n f) es
+abbrev pub no_binding : Binding
+no_binding = record { reads = []; writes = [] }
+
+-- arguments for parameters in order
+abbrev pub bound_arguments : Names → Binding → List ℕ → List Expr → Binding
+bound_arguments n b [] es = b
+bound_arguments n b (x ∷ xs) [] = b
+bound_arguments n b (x ∷ xs) (e ∷ es) = bound_arguments n (bound_argument n b (x, e)) xs es
+
+-- the arguments in order, and then the parameters in order
+abbrev pub call_deeds : Names → List ℕ → List Expr → List Deed
+call_deeds n xs es = let b = bound_arguments n no_binding xs es in b.reads ++ b.writes
 
 -- the variables of function f are indeterminate behind it (6.2.4p5)
-abbrev pub all_unset : List ℕ → List Deed
-all_unset ks = map (λ k. Sets k source.Undef) ks
+abbrev pub unset : ℕ → List Deed
+unset k = Sets k source.Undef ∷ []
 
-abbrev pub left : Names → Option ℕ → List Deed
-left n None = []
-left n (Some f) = all_unset (owned n f)
+abbrev pub all_unset : List ℕ → List Deed
+all_unset ks = flat_map unset ks
+
+-- those of a function, if there is one
+abbrev pub owned_by : Names → Option ℕ → List ℕ
+owned_by n None = []
+owned_by n (Some f) = owned n f
 
 -- a value is returned, to a pointer variable if that is where it goes; it is noted where it is written
 abbrev pub returned : Names → Option ℕ → Expr → List Deed
@@ -228,11 +236,11 @@ abbrev pub returned_any : Names → Option ℕ → Option Expr → List Deed
 returned_any n k None = []
 returned_any n k (Some e) = returned n k e
 
--- over the way back from function f, and out of `main`
-abbrev pub return_deeds : Names → Option ℕ → Option Expr → Way → List Deed
-return_deeds n f value (way.Leave target) = returned_any n (option_and_then (place_of n) target) value ++ left n f
-return_deeds n f value way.On = returned_any n None value
-return_deeds n f value w = []
+-- over the way back from a function whose pointer variables have these places, and out of `main`
+abbrev pub return_deeds : Names → List ℕ → Option Expr → Way → List Deed
+return_deeds n ks value (way.Leave target) = returned_any n (option_and_then (place_of n) target) value ++ all_unset ks
+return_deeds n ks value way.On = returned_any n None value
+return_deeds n ks value w = []
 
 -- actions
 
@@ -245,18 +253,19 @@ made n place site w = []
 abbrev pub malloc_deeds : Names → Option Expr → Size → Option ℕ → Way → List Deed
 malloc_deeds n place size site w = place_deeds n place ++ size_deeds n size ++ made n place site w
 
--- the action at a node, with the node's site if it has one, and the function that its context is of
-abbrev pub action_deeds : Names → Option ℕ → Option ℕ → Way → Action → List Deed
-action_deeds n site f w (action.Unset x) = sets (place_of n x) source.Undef
-action_deeds n site f w (action.Assign s) = simple_deeds n s s.right
-action_deeds n site f w (action.Malloc place size at) = malloc_deeds n place size site w
-action_deeds n site f w (action.Getchar place) = place_deeds n place
-action_deeds n site f w (action.Putchar e) = value_deeds n false e
-action_deeds n site f w (action.Printf text es) = flat_map (value_deeds n false) es
-action_deeds n site f w (action.Test e) = value_deeds n false e ++ said n w e
-action_deeds n site f w (action.Call g es) = call_deeds n g es
-action_deeds n site f w (action.Return value) = return_deeds n f value w
-action_deeds n site f w action.Close = return_deeds n f None w
+-- the action at a node, with the node's site if it has one, the parameters of the callee if it is a call, and the pointer
+-- variables of its own function
+abbrev pub action_deeds : Names → Option ℕ → List ℕ → List ℕ → Way → Action → List Deed
+action_deeds n site xs ks w (action.Unset x) = sets (place_of n x) source.Undef
+action_deeds n site xs ks w (action.Assign s) = simple_deeds n s s.right
+action_deeds n site xs ks w (action.Malloc place size at) = malloc_deeds n place size site w
+action_deeds n site xs ks w (action.Getchar place) = place_deeds n place
+action_deeds n site xs ks w (action.Putchar e) = value_deeds n false e
+action_deeds n site xs ks w (action.Printf text es) = flat_map (value_deeds n false) es
+action_deeds n site xs ks w (action.Test e) = test_deeds n w e
+action_deeds n site xs ks w (action.Call g es) = call_deeds n xs es
+action_deeds n site xs ks w (action.Return value) = return_deeds n ks value w
+action_deeds n site xs ks w action.Close = return_deeds n ks None w
 
 -- edges
 
@@ -264,10 +273,15 @@ action_deeds n site f w action.Close = return_deeds n f None w
 abbrev pub site_of : Names → ℕ → Option ℕ
 site_of n v = position (λ u. u == v) n.sites
 
+-- the parameters of a function, if there is one
+abbrev pub parameters_of : Names → Option ℕ → List ℕ
+parameters_of n None = []
+parameters_of n (Some f) = parameters n f
+
 -- a gap does nothing to pointers, and nothing is behind an exit
 abbrev pub kind_deeds : Names → Option ℕ → Option ℕ → Way → NodeKind → List Deed
 kind_deeds n site f w (kind.Gap number frees) = []
-kind_deeds n site f w (kind.Act a) = action_deeds n site f w a
+kind_deeds n site f w (kind.Act a) = action_deeds n site (parameters_of n (callee_in a)) (owned_by n f) w a
 kind_deeds n site f w (kind.Exit offset) = []
 
 -- what goes over an edge does to pointers

@@ -25,8 +25,8 @@ abbrev pub place_of : Names → ℕ → Option ℕ
 place_of n x = position (λ y. y == x) n.vars
 
 -- the place of a field of a pointer variable among the fields
-abbrev pub field_place : Names → ℕ → ℕ → Option ℕ
-field_place n k f = position (λ (y : ℕ × ℕ). y.0 == k && y.1 == f) n.fields
+abbrev pub field_place : List (ℕ × ℕ) → ℕ → ℕ → Option ℕ
+field_place fields k f = position (λ (y : ℕ × ℕ). y.0 == k && y.1 == f) fields
 
 -- the type of a variable
 abbrev pub type_of : Names → ℕ → Option Ty
@@ -43,9 +43,13 @@ pointer_at t k = record { ty = t; read = read.Name k }
 abbrev pub var_pointer : Names → ℕ → Option Pointer
 var_pointer n x = option_and_then (λ t. option_map (pointer_at t) (place_of n x)) (type_of n x)
 
+-- the fields have their numbers behind the variables
+abbrev pub numbered : Names → ℕ → ℕ → Option Read
+numbered n k f = option_map (λ j. read.Name (length n.vars + j)) (field_place n.fields k f)
+
 -- a field of what a read finds: of a variable it has a number, behind a longer chain it has not
 abbrev pub chained : Names → ℕ → ℕ → ℕ → Bool → Option Read
-chained n k s f true = option_map (λ j. read.Name (length n.vars + j)) (field_place n k f)
+chained n k s f true = numbered n k f
 chained n k s f false = Some (read.Deep s f)
 
 abbrev pub field_read : Names → Read → ℕ → ℕ → Option Read

@@ -1,17 +1,19 @@
 // What the action at a node does to pointers over one of its edges.
-ghost use Rattle.std.specs.Prelude.{◌≡◌, ◌++◌, IfOk, OnOk};
+ghost use Rattle.std.specs.Prelude.{◌≡◌, ◌++◌, false, IfOk, OnOk};
 ghost use Rattle.std.specs.List.{flat_map};
-ghost use Rattle.c_tree.specs.declared.expr.Expr.{out-Expr};
-ghost use Rattle.c_graph.specs.Executes.{function_of};
-ghost use Rattle.ts_domain.specs.Deeds.{action_deeds, assign_deeds, content, edge_deeds, is_null, kind_deeds, looked_at, place_deeds, put_deeds, sets, sets_field, simple_deeds, site_of, size_deeds, source_of, written, written_any, written_if};
+ghost use Rattle.std.specs.Option.{option_and_then};
+ghost use Rattle.ts_domain.specs.Deeds.{assign_deeds, change_deeds, is_null, looked_at, made, malloc_deeds, place_deeds, put_deeds, return_deeds, returned_any, sets, sets_field, simple_deeds, size_deeds, source_behind, source_of, unset, written, written_any};
 ghost use Rattle.ts_domain.specs.Looks.{is_noted, notes, value_deeds};
+ghost use Rattle.ts_domain.specs.Pointers.{place_of};
 
 use crate::deed::{Deed, Looked, Source};
 use crate::looks::{itself, pointer_of, value_deeds, within};
 use crate::names::{Names, Read};
 use crate::pointers::{field_pointer, place_of, Pointer};
+use c_graph::Way;
 use c_tree::{Expr, Op, Right, Simple, Size, Ty};
 use mf_list::{Memory, Seq};
+use std::alloc::Global;
 
 fn is_noted(deed: &Deed) -> bool
     ensures { result ≡ is_noted deed.now }
@@ -88,7 +90,8 @@ pub fn valued(
     Ok(source)
 }
 
-fn sets(list: &mut Seq<Deed>, place: Option<usize>, source: Source) -> Result<(), Memory>
+/// Adds the write of a variable, if there is one.
+pub fn sets(list: &mut Seq<Deed>, place: Option<usize>, source: Source) -> Result<(), Memory>
     ensures { OnOk result (list.new ≡ list.old ++ sets place source) }
 {
     match place {
@@ -158,7 +161,7 @@ fn written_any(
 }
 
 /// Adds what working out a place does, where there is one.
-fn place_deeds(list: &mut Seq<Deed>, names: &Names, place: &Option<Expr>) -> Result<(), Memory>
+pub fn place_deeds(list: &mut Seq<Deed>, names: &Names, place: &Option<Expr>) -> Result<(), Memory>
     ensures { OnOk result (list.new ≡ list.old ++ place_deeds names.now place.now) }
 {
     match place {
@@ -225,7 +228,7 @@ fn assign_deeds(
     }
 }
 
-fn simple_deeds(alloc: Global, names: &Names, simple: &Simple) -> Result<Seq<Deed>, Memory>
+pub fn simple_deeds(alloc: Global, names: &Names, simple: &Simple) -> Result<Seq<Deed>, Memory>
     ensures { IfOk result (λ list. list ≡ simple_deeds names.now simple.now simple.now.right) }
 {
     match &simple.right {
@@ -258,7 +261,7 @@ fn made(
     }
 }
 
-fn malloc_deeds(
+pub fn malloc_deeds(
     alloc: Global,
     names: &Names,
     place: &Option<Expr>,
@@ -275,7 +278,7 @@ fn malloc_deeds(
     Ok(list)
 }
 
-fn print_deeds(alloc: Global, names: &Names, values: &[Expr]) -> Result<Seq<Deed>, Memory>
+pub fn print_deeds(alloc: Global, names: &Names, values: &[Expr]) -> Result<Seq<Deed>, Memory>
     ensures { IfOk result (λ list. list ≡ flat_map (value_deeds names.now false) values.now) }
 {
     let mut list = Seq::new(alloc);
@@ -285,30 +288,73 @@ fn print_deeds(alloc: Global, names: &Names, values: &[Expr]) -> Result<Seq<Deed
     Ok(list)
 }
 
+fn unset(list: &mut Seq<Deed>, place: usize) -> Result<(), Memory>
+    ensures { OnOk result (list.new ≡ list.old ++ unset place) }
+{
+    list.push(Deed::Sets(place, Source::Undef))
+}
+
 fn all_unset(list: &mut Seq<Deed>, places: &[usize]) -> Result<(), Memory>
-    ensures { OnOk result (list.new ≡ list.old ++ all_unset places.now) }
+    ensures { OnOk result (list.new ≡ list.old ++ flat_map unset places.now) }
 {
     for place in places {
-        list.push(Deed::Sets(*place, Source::Undef))?;
+        unset(list, *place)?;
     }
     Ok(())
 }
 
 /// The value goes to a pointer variable, if that is where it goes; it is noted where it is written.
 fn returned(
-    list: &mut Seq<Deed>,
+    alloc: Global,
     names: &Names,
     target: Option<usize>,
     value: &Option<Expr>,
-) -> Result<(), Memory>
-    requires { list.now ≡ [] }
-    ensures { OnOk result (list.new ≡ returned_any names.now target value.now) }
+) -> Result<Seq<Deed>, Memory>
+    ensures { IfOk result (λ list. list ≡ returned_any names.now target value.now) }
 {
+    let mut list = Seq::new(alloc);
     let Some(value) = value else {
-        return Ok(());
+        return Ok(list);
     };
-    match valued(list, names, target.is_some(), value)? {
-        None => Ok(()),
-        Some(source) => sets(list, target, source),
+    match valued(&mut list, names, target.is_some(), value)? {
+        None => Ok(list),
+        Some(source) => {
+            sets(&mut list, target, source)?;
+            Ok(list)
+        }
+    }
+}
+
+fn target_place(names: &Names, target: Option<usize>) -> Option<usize>
+    ensures { result ≡ option_and_then (place_of names.now) target }
+{
+    match target {
+        None => None,
+        Some(variable) => place_of(names, variable),
+    }
+}
+
+/// Over the way back from a function whose pointer variables have these places, and out of `main`.
+pub fn return_deeds(
+    alloc: Global,
+    names: &Names,
+    owned: &[usize],
+    value: &Option<Expr>,
+    way: Way,
+) -> Result<Seq<Deed>, Memory>
+    ensures { IfOk result (λ list. list ≡ return_deeds names.now owned.now value.now way) }
+{
+    match way {
+        Way::Leave(target) => {
+            let mut list = returned(alloc, names, target_place(names, target), value)?;
+            all_unset(&mut list, owned)?;
+            Ok(list)
+        }
+        Way::On => returned(alloc, names, None, value),
+        Way::True => Ok(Seq::new(alloc)),
+        Way::False => Ok(Seq::new(alloc)),
+        Way::Made => Ok(Seq::new(alloc)),
+        Way::NotMade => Ok(Seq::new(alloc)),
+        Way::Enter => Ok(Seq::new(alloc)),
     }
 }

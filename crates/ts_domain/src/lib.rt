@@ -2,6 +2,8 @@
 #![tactic(auto)]
 
 mod deed;
+mod deeds;
+mod edges;
 mod facts;
 mod looks;
 mod marks;
@@ -10,6 +12,7 @@ mod pointers;
 mod triples;
 
 pub use deed::{Deed, Looked, Saying, Source};
+pub use edges::action_deeds;
 pub use facts::{Facts, May, Path};
 pub use marks::{Alias, Mark, Step};
 pub use names::{Names, Read};

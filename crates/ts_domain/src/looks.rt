@@ -28,7 +28,8 @@ pub fn pointer_of(names: &Names, expr: &Expr) -> Option<Pointer>
     }
 }
 
-fn itself(list: &mut Seq<Deed>, noted: bool, pointer: Option<Pointer>) -> Result<(), Memory>
+/// Adds the read of a pointer itself, if there is one.
+pub fn itself(list: &mut Seq<Deed>, noted: bool, pointer: Option<Pointer>) -> Result<(), Memory>
     ensures { OnOk result (list.new ≡ list.old ++ itself noted pointer) }
 {
     match pointer {

@@ -1,6 +1,6 @@
 // Which expressions are pointers, and their numbers.
-ghost use Rattle.std.specs.Prelude.{◌≡◌};
-ghost use Rattle.ts_domain.specs.Pointers.{field_of_struct, field_place, field_pointer, field_read, field_type, is_of, is_parameter_of, is_pointer, place_of, type_of, var_pointer};
+ghost use Rattle.std.specs.Prelude.{◌≡◌, ◌<◌, length, IfSome};
+ghost use Rattle.ts_domain.specs.Pointers.{field_of_struct, field_place, field_pointer, field_read, field_type, is_of, is_parameter_of, is_pointer, numbered, place_of, type_of, var_pointer};
 
 use crate::names::{Names, Read};
 use c_tree::{Home, Ty};
@@ -28,13 +28,6 @@ pub fn place_of(names: &Names, variable: usize) -> Option<usize>
     ensures { result ≡ place_of names.now variable }
 {
     names.vars.as_slice().iter().position(|x| *x == variable)
-}
-
-fn field_place(names: &Names, place: usize, field: usize) -> Option<usize>
-    ensures { result ≡ field_place names.now place field }
-{
-    let fields = names.fields.as_slice();
-    fields.iter().position(|x| x.0 == place && x.1 == field)
 }
 
 fn type_of(names: &Names, variable: usize) -> Option<Ty>
@@ -74,14 +67,30 @@ pub fn var_pointer(names: &Names, variable: usize) -> Option<Pointer>
     }
 }
 
+fn field_place(fields: &[(usize, usize)], place: usize, field: usize) -> Option<usize>
+    ensures first { result ≡ field_place fields.now place field }
+    ensures below { IfSome result (λ at. at < length fields.now) }
+{
+    fields.iter().position(|x| x.0 == place && x.1 == field)
+}
+
+/// The number of a field of a variable, which comes behind those of the variables.
+fn numbered(names: &Names, place: usize, field: usize) -> Option<Read>
+    ensures { result ≡ numbered names.now place field }
+{
+    let vars = names.vars.as_slice();
+    let fields = names.fields.as_slice();
+    match field_place(fields, place, field) {
+        None => None,
+        Some(at) => Some(Read::Name(vars.len() + at)),
+    }
+}
+
 fn chained(names: &Names, place: usize, of: usize, field: usize) -> Option<Read>
     ensures { result ≡ field_read names.now (Read.Name place) of field }
 {
     if place < names.vars.len() {
-        match field_place(names, place, field) {
-            None => None,
-            Some(at) => Some(Read::Name(names.vars.len() + at)),
-        }
+        numbered(names, place, field)
     } else {
         Some(Read::Deep(of, field))
     }
