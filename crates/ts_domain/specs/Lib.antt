@@ -1,3 +1,6 @@
 pub mod Pointers
 pub mod Looks
 pub mod Deeds
+pub mod May
+pub mod Facts
+pub mod Path

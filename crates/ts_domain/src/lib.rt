@@ -4,6 +4,7 @@
 mod deed;
 mod deeds;
 mod edges;
+mod fact;
 mod facts;
 mod looks;
 mod marks;
@@ -13,6 +14,7 @@ mod triples;
 
 pub use deed::{Deed, Looked, Saying, Source};
 pub use edges::action_deeds;
+pub use fact::Fact;
 pub use facts::{Facts, May, Path};
 pub use marks::{Alias, Mark, Step};
 pub use names::{Names, Read};

@@ -1,0 +1,241 @@
+-- The numbers of facts, and what has to hold before a deed so that a fact holds behind it.
+use Rattle.std.specs.Prelude.{ℕ, zero, suc, ◌+◌, ◌-◌, ◌==◌, ◌&&◌, ◌||◌, nat_lt, Bool, true, false, List, [], ◌∷◌, length, slice_get, option_map, Option, None, Some, if◌then◌else◌}
+use Rattle.std.specs.Option.{option_and_then}
+use Rattle.ts_domain.specs.declared.deed.Deed.{Deed}
+use Rattle.ts_domain.specs.declared.deed.Deed.TheVariants.{Reads, Follows, Says, Sets, SetsField}
+use Rattle.ts_domain.specs.declared.deed.Looked.{Looked}
+use Rattle.ts_domain.specs.declared.deed.Looked.TheVariants as looked
+use Rattle.ts_domain.specs.declared.deed.Saying.{Saying}
+use Rattle.ts_domain.specs.declared.deed.Saying.TheVariants.{IsNull, IsntNull, AreEqual, Differ}
+use Rattle.ts_domain.specs.declared.deed.Source.{Source}
+use Rattle.ts_domain.specs.declared.deed.Source.TheVariants.{Content, Null, New, Undef}
+use Rattle.ts_domain.specs.declared.fact.Fact.{Fact}
+use Rattle.ts_domain.specs.declared.fact.Fact.TheVariants.{Ready, Full, Filled, Equal, Apart}
+use Rattle.ts_domain.specs.declared.names.Names.{Names}
+use Rattle.ts_domain.specs.declared.names.Read.{Read}
+use Rattle.ts_domain.specs.declared.names.Read.TheVariants as read
+use Rattle.ts_domain.specs.Pointers.{field_place}
+
+-- numbers
+
+-- how many pairs of n variables there are whose first is below x
+abbrev pub pairs_below : ℕ → ℕ → ℕ
+pairs_below n zero = 0
+pairs_below zero (suc x) = 0
+pairs_below (suc n) (suc x) = n + pairs_below n x
+
+-- pairs of two variables, the lesser first, ascend by the first and then by the second
+abbrev pub pair_number : ℕ → ℕ → ℕ → ℕ
+pair_number n x y = pairs_below n x + (y - suc x)
+
+abbrev pub pair_count : ℕ → ℕ
+pair_count n = pairs_below n n
+
+-- facts in the order of their kinds, each by variable, field or pair
+abbrev pub fact_number : ℕ → ℕ → Fact → ℕ
+fact_number n w (Ready x) = x
+fact_number n w (Full x) = n + x
+fact_number n w (Filled j) = n + n + j
+fact_number n w (Equal x y) = n + n + w + pair_number n x y
+fact_number n w (Apart x y) = n + n + w + pair_count n + pair_number n x y
+
+-- how many facts there are
+abbrev pub fact_count : ℕ → ℕ → ℕ
+fact_count n w = n + n + w + pair_count n + pair_count n
+
+-- the number of a fact
+abbrev pub number_of : Names → Fact → ℕ
+number_of n f = fact_number (length n.vars) (length n.fields) f
+
+-- the variables and the field of a fact exist, and those of a pair ascend
+abbrev pub is_fact : Names → Fact → Bool
+is_fact n (Ready x) = nat_lt x (length n.vars)
+is_fact n (Full x) = nat_lt x (length n.vars)
+is_fact n (Filled j) = nat_lt j (length n.fields)
+is_fact n (Equal x y) = nat_lt x y && nat_lt y (length n.vars)
+is_fact n (Apart x y) = nat_lt x y && nat_lt y (length n.vars)
+
+-- pre-facts
+
+-- when a fact holds behind a deed: always, never, or where another held before it
+pub data Before : Type 0 where
+  Always : Before
+  Never : Before
+  Where : (f : Fact) → Before
+
+-- a pair in its order; a variable is equal to itself and not apart from itself
+abbrev pub equal : ℕ → ℕ → Before
+equal x y = if x == y then Always else Where (if nat_lt x y then Equal x y else Equal y x)
+
+abbrev pub apart : ℕ → ℕ → Before
+apart x y = if x == y then Never else Where (if nat_lt x y then Apart x y else Apart y x)
+
+-- the field f of another variable, which has one of the same struct
+abbrev pub filled : Names → ℕ → Option ℕ → Before
+filled n f None = Never
+filled n f (Some j) = Where (Filled j)
+
+abbrev pub if_so : Bool → Before
+if_so true = Always
+if_so false = Never
+
+-- what a variable gets, as far as facts tell: a variable's content, a content that was read from a field, or another
+pub data Given : Type 0 where
+  Copied : (y : ℕ) → Given
+  Loaded : Given
+  Nothing : Given
+  Fresh : Given
+  Unset : Given
+
+abbrev pub given_read : Names → Looked → Given
+given_read n (looked.Name k) = if nat_lt k (length n.vars) then Copied k else Loaded
+given_read n (looked.Deep s f note) = Loaded
+
+abbrev pub given : Names → Source → Given
+given n (Content l) = given_read n l
+given n Null = Nothing
+given n (New s) = Fresh
+given n Undef = Unset
+
+-- a variable that was written is set, but by what is indeterminate (6.7.8p10, 6.2.4p5)
+abbrev pub ready_of : Given → Before
+ready_of (Copied y) = Always
+ready_of Loaded = Always
+ready_of Nothing = Always
+ready_of Fresh = Always
+ready_of Unset = Never
+
+-- it holds an object if it is new, or if the other did
+abbrev pub full_of : Given → Before
+full_of (Copied y) = Where (Full y)
+full_of Loaded = Never
+full_of Nothing = Never
+full_of Fresh = Always
+full_of Unset = Never
+
+-- its field f is set where it holds no object, or where the other's is
+abbrev pub filled_of : Names → ℕ → Given → Before
+filled_of n f (Copied y) = filled n f (field_place n.fields y f)
+filled_of n f Loaded = Never
+filled_of n f Nothing = Always
+filled_of n f Fresh = Never
+filled_of n f Unset = Always
+
+-- it has the same content as z where the other has
+abbrev pub equal_of : ℕ → Given → Before
+equal_of z (Copied y) = equal y z
+equal_of z Loaded = Never
+equal_of z Nothing = Never
+equal_of z Fresh = Never
+equal_of z Unset = Never
+
+-- it holds no object of z where it holds a new one or none, or where the other holds none of z
+abbrev pub apart_of : ℕ → Given → Before
+apart_of z (Copied y) = apart y z
+apart_of z Loaded = Never
+apart_of z Nothing = Always
+apart_of z Fresh = Always
+apart_of z Unset = Always
+
+-- a pair of which one is x has another, and a pair without x has none
+abbrev pub other_of : ℕ → ℕ → ℕ → Option ℕ
+other_of x y z = if x == y then Some z else if x == z then Some y else None
+
+abbrev pub pair_of : Fact → (ℕ → Before) → Option ℕ → Before
+pair_of f about None = Where f
+pair_of f about (Some z) = about z
+
+-- the field of a Filled fact: its variable and its number in the struct
+abbrev pub filled_by : Fact → (ℕ → Before) → ℕ → Option (ℕ × ℕ) → Before
+filled_by h about x None = Where h
+filled_by h about x (Some p) = if p.0 == x then about p.1 else Where h
+
+-- before a variable x gets that
+abbrev pub before_given : Names → ℕ → Given → Fact → Before
+before_given n x v (Ready y) = if x == y then ready_of v else Where (Ready y)
+before_given n x v (Full y) = if x == y then full_of v else Where (Full y)
+before_given n x v (Filled j) = filled_by (Filled j) (λ f. filled_of n f v) x (slice_get n.fields j)
+before_given n x v (Equal y z) = pair_of (Equal y z) (λ o. equal_of o v) (other_of x y z)
+before_given n x v (Apart y z) = pair_of (Apart y z) (λ o. apart_of o v) (other_of x y z)
+
+-- `x = x` changes nothing
+abbrev pub is_itself : ℕ → Given → Bool
+is_itself x (Copied y) = x == y
+is_itself x Loaded = false
+is_itself x Nothing = false
+is_itself x Fresh = false
+is_itself x Unset = false
+
+abbrev pub before_set : Names → ℕ → Given → Fact → Before
+before_set n x v f = if is_itself x v then Where f else before_given n x v f
+
+-- a fact that a deed shows holds behind it
+abbrev pub shown : Bool → Fact → Before
+shown true f = Always
+shown false f = Where f
+
+-- a field that a read or a write names is the field of a Filled fact
+abbrev pub is_field : Names → Read → ℕ → Bool
+is_field n (read.Name k) j = k == length n.vars + j
+is_field n (read.Deep s f) j = false
+
+-- a read shows that what it reads is not indeterminate
+abbrev pub read_shows : Names → Read → Fact → Bool
+read_shows n (read.Name k) (Ready x) = k == x
+read_shows n r (Filled j) = is_field n r j
+read_shows n r _ = false
+
+-- a variable that is followed holds an object
+abbrev pub follow_shows : ℕ → Fact → Bool
+follow_shows k (Full x) = k == x
+follow_shows k _ = false
+
+-- a field of a variable that is written is set: what is stored was read or made, and is not indeterminate
+abbrev pub is_field_of : ℕ → ℕ → Option (ℕ × ℕ) → Bool
+is_field_of x f None = false
+is_field_of x f (Some p) = p.0 == x && p.1 == f
+
+abbrev pub write_shows : Names → Read → ℕ → Fact → Bool
+write_shows n (read.Name x) f (Filled j) = is_field_of x f (slice_get n.fields j)
+write_shows n r f _ = false
+
+-- a null pointer holds no object, so it is apart from all, and its fields count as set
+abbrev pub owns_field : ℕ → Option (ℕ × ℕ) → Bool
+owns_field x None = false
+owns_field x (Some p) = p.0 == x
+
+abbrev pub null_shows : Names → ℕ → Fact → Bool
+null_shows n x (Apart y z) = x == y || x == z
+null_shows n x (Filled j) = owns_field x (slice_get n.fields j)
+null_shows n x _ = false
+
+-- two variables that are compared
+abbrev pub is_pair : Looked → Looked → ℕ → ℕ → Bool
+is_pair (looked.Name k) (looked.Name l) x y = (k == x && l == y) || (k == y && l == x)
+is_pair _ _ x y = false
+
+-- what a test says
+abbrev pub saying_shows : Names → Saying → Fact → Bool
+saying_shows n (IsNull x) f = null_shows n x f
+saying_shows n (IsntNull x) (Full y) = x == y
+saying_shows n (AreEqual r q) (Equal x y) = is_pair r q x y
+saying_shows n (Differ r q) (Apart x y) = is_pair r q x y
+saying_shows n s _ = false
+
+-- before one deed
+abbrev pub before_deed : Names → Deed → Fact → Before
+before_deed n (Reads r noted) f = shown (read_shows n r f) f
+before_deed n (Follows x) f = shown (follow_shows x f) f
+before_deed n (Says s) f = shown (saying_shows n s f) f
+before_deed n (Sets x v) f = before_set n x (given n v) f
+before_deed n (SetsField r s g v) f = shown (write_shows n r g f) f
+
+-- before deeds, the last first
+abbrev pub before_with : (Fact → Before) → Before → Before
+before_with earlier Always = Always
+before_with earlier Never = Never
+before_with earlier (Where f) = earlier f
+
+abbrev pub before_deeds : Names → List Deed → Fact → Before
+before_deeds n [] f = Where f
+before_deeds n (d ∷ ds) f = before_with (before_deed n d) (before_deeds n ds f)
