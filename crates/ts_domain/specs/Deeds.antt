@@ -1,9 +1,9 @@
 -- What the action at a node does to pointers over one of its edges: what it reads, what its test says, what it writes.
-use Rattle.std.specs.Prelude.{ℕ, suc, ◌==◌, ◌&&◌, Bool, true, false, not, List, [], ◌∷◌, ◌++◌, map, slice_get, option_map, position, Option, None, Some, if◌then◌else◌}
+use Rattle.std.specs.Prelude.{ℕ, ◌==◌, Bool, true, false, not, List, [], ◌∷◌, ◌++◌, slice_get, option_map, position, Option, None, Some, if◌then◌else◌}
 use Rattle.std.specs.List.{flat_map}
 use Rattle.std.specs.Option.{option_and_then, is_some}
 use Rattle.c_tree.specs.declared.expr.Expr.{Expr, Expr-F, out-Expr}
-use Rattle.c_tree.specs.declared.expr.Expr.TheOpen.{Const, Null, Var, Field, Deref, Index, Unary, Binary}
+use Rattle.c_tree.specs.declared.expr.Expr.TheOpen.{Const, Null, Var, Field, Binary}
 use Rattle.c_tree.specs.declared.expr.Op.{Op}
 use Rattle.c_tree.specs.declared.expr.Op.TheVariants as op
 use Rattle.c_tree.specs.declared.expr.Oper.{Oper}
@@ -27,7 +27,7 @@ use Rattle.c_graph.specs.Executes.{callee_in, function_of}
 use Rattle.c_graph.specs.declared.graph.Way.{Way}
 use Rattle.c_graph.specs.declared.graph.Way.TheVariants as way
 use Rattle.ts_domain.specs.declared.deed.Deed.{Deed}
-use Rattle.ts_domain.specs.declared.deed.Deed.TheVariants.{Reads, Says, Sets, SetsField}
+use Rattle.ts_domain.specs.declared.deed.Deed.TheVariants.{Says, Sets, SetsField}
 use Rattle.ts_domain.specs.declared.deed.Looked.{Looked}
 use Rattle.ts_domain.specs.declared.edges.Binding.{Binding}
 use Rattle.ts_domain.specs.declared.deed.Looked.TheVariants as looked
@@ -291,4 +291,3 @@ node_deeds n g e (Some v) = kind_deeds n (site_of n e.from) (function_of g v.ctx
 
 abbrev pub edge_deeds : Names → Graph → Edge → List Deed
 edge_deeds n g e = node_deeds n g e (slice_get g.nodes e.from)
-

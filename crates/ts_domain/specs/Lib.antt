@@ -4,3 +4,5 @@ pub mod Deeds
 pub mod May
 pub mod Facts
 pub mod Path
+pub mod Rows
+pub mod Tables

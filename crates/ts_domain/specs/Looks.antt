@@ -1,8 +1,8 @@
 -- What evaluating an expression does to pointers (C99 6.5), in the order of the evaluation.
-use Rattle.std.specs.Prelude.{ℕ, suc, ◌&&◌, ◌||◌, nat_lt, Bool, true, false, List, [], ◌∷◌, ◌++◌, length, Option, None, Some, if◌then◌else◌}
+use Rattle.std.specs.Prelude.{ℕ, ◌&&◌, nat_lt, Bool, true, false, List, [], ◌∷◌, ◌++◌, length, Option, None, Some, if◌then◌else◌}
 use Rattle.std.specs.List.{filter}
 use Rattle.std.specs.Option.{option_and_then, is_some}
-use Rattle.c_tree.specs.declared.expr.Expr.{Expr, Expr-F, out-Expr, fold-Expr}
+use Rattle.c_tree.specs.declared.expr.Expr.{Expr, Expr-F, fold-Expr}
 use Rattle.c_tree.specs.declared.expr.Expr.TheOpen.{Const, Null, Var, Field, Deref, Index, Unary, Binary}
 use Rattle.c_tree.specs.declared.expr.Oper.{Oper}
 use Rattle.c_tree.specs.declared.expr.Oper.TheVariants as oper

@@ -9,7 +9,7 @@ ghost use Rattle.ts_domain.specs.Pointers.{place_of};
 use crate::deed::{Deed, Looked, Source};
 use crate::looks::{itself, pointer_of, value_deeds, within};
 use crate::names::{Names, Read};
-use crate::pointers::{field_pointer, place_of, Pointer};
+use crate::pointers::{Pointer, field_pointer, place_of};
 use c_graph::Way;
 use c_tree::{Expr, Op, Right, Simple, Size, Ty};
 use mf_list::{Memory, Seq};

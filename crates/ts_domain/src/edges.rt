@@ -4,21 +4,20 @@ ghost use Rattle.ts_domain.specs.Deeds.{action_deeds, bound, bound_argument, bou
 ghost use Rattle.ts_domain.specs.Looks.{pointer_of};
 
 use crate::deed::{Deed, Looked, Saying, Source};
-use crate::deeds::{is_null, looked_at, malloc_deeds, notes, place_deeds, print_deeds, return_deeds, sets, simple_deeds, valued};
+use crate::deeds::{
+    is_null, looked_at, malloc_deeds, notes, place_deeds, print_deeds, return_deeds, sets,
+    simple_deeds, valued,
+};
 use crate::looks::{itself, pointer_of, value_deeds, within};
 use crate::names::{Names, Read};
-use crate::pointers::{place_of, Pointer};
+use crate::pointers::{Pointer, place_of};
 use c_graph::{Action, Way};
 use c_tree::{Expr, Oper};
 use mf_list::{Memory, Seq};
 use std::alloc::Global;
 
 /// The pointer of a test is the null pointer, or isn't.
-fn null_said(
-    list: &mut Seq<Deed>,
-    is_null: bool,
-    pointer: Option<Pointer>,
-) -> Result<(), Memory>
+fn null_said(list: &mut Seq<Deed>, is_null: bool, pointer: Option<Pointer>) -> Result<(), Memory>
     ensures { OnOk result (list.new ≡ list.old ++ null_said is_null pointer) }
 {
     match pointer {
@@ -172,11 +171,7 @@ fn test_deeds(alloc: Global, names: &Names, way: Way, test: &Expr) -> Result<Seq
     Ok(list)
 }
 
-fn bound(
-    list: &mut Seq<Deed>,
-    place: Option<usize>,
-    source: Option<Source>,
-) -> Result<(), Memory>
+fn bound(list: &mut Seq<Deed>, place: Option<usize>, source: Option<Source>) -> Result<(), Memory>
     ensures { OnOk result (list.new ≡ list.old ++ bound place source) }
 {
     match source {
@@ -264,9 +259,7 @@ pub fn action_deeds(
             Ok(list)
         }
         Action::Assign(simple) => simple_deeds(alloc, names, simple),
-        Action::Malloc(place, size, _) => {
-            malloc_deeds(alloc, names, place, size, site, way)
-        }
+        Action::Malloc(place, size, _) => { malloc_deeds(alloc, names, place, size, site, way) }
         Action::Getchar(place) => {
             place_deeds(&mut list, names, place)?;
             Ok(list)
@@ -277,9 +270,7 @@ pub fn action_deeds(
         }
         Action::Printf(_, values) => print_deeds(alloc, names, values.as_slice()),
         Action::Test(test) => test_deeds(alloc, names, way, test),
-        Action::Call(_, arguments) => {
-            call_deeds(alloc, names, parameters, arguments)
-        }
+        Action::Call(_, arguments) => { call_deeds(alloc, names, parameters, arguments) }
         Action::Return(value) => return_deeds(alloc, names, owned, value, way),
         Action::Close => return_deeds(alloc, names, owned, &None, way),
     }

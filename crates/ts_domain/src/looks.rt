@@ -4,7 +4,7 @@ ghost use Rattle.ts_domain.specs.Looks.{based_deeds, compares, followed, is_equa
 
 use crate::deed::Deed;
 use crate::names::{Names, Read};
-use crate::pointers::{field_pointer, var_pointer, Pointer};
+use crate::pointers::{Pointer, field_pointer, var_pointer};
 use c_tree::{Expr, Oper};
 use mf_list::{Memory, Seq};
 
@@ -78,9 +78,7 @@ fn is_equality(oper: Oper) -> bool
 fn compares(names: &Names, oper: Oper, left: &Expr, right: &Expr) -> bool
     ensures { result ≡ compares oper (pointer_of names.now left.now) (pointer_of names.now right.now) }
 {
-    is_equality(oper)
-        && pointer_of(names, left).is_some()
-        && pointer_of(names, right).is_some()
+    is_equality(oper) && pointer_of(names, left).is_some() && pointer_of(names, right).is_some()
 }
 
 /// Adds what the operands of an expression do.

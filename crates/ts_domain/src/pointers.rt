@@ -1,9 +1,9 @@
 // Which expressions are pointers, and their numbers.
 ghost use Rattle.std.specs.Prelude.{◌≡◌, ◌<◌, length, IfSome};
-ghost use Rattle.ts_domain.specs.Pointers.{field_of_struct, field_place, field_pointer, field_read, field_type, is_of, is_parameter_of, is_pointer, numbered, place_of, type_of, var_pointer};
+ghost use Rattle.ts_domain.specs.Pointers.{field_of_struct, field_place, field_pointer, field_read, field_type, is_pointer, numbered, place_of, type_of, var_pointer};
 
 use crate::names::{Names, Read};
-use c_tree::{Home, Ty};
+use c_tree::Ty;
 
 /// An expression that a pointer is read from: its type, and what a read of it names.
 #[derive(Clone, Copy, Debug, PartialEq, Eq)]
@@ -130,27 +130,5 @@ pub fn field_pointer(names: &Names, field: usize, base: Pointer) -> Option<Point
         Ty::Int => None,
         Ty::IntPtr => None,
         Ty::StructPtr(of) => field_of_struct(names, base.read, of, field),
-    }
-}
-
-fn is_of(function: usize, home: Home) -> bool
-    ensures { result ≡ is_of function home }
-{
-    match home {
-        Home::Global(_) => false,
-        Home::Param(of) => of == function,
-        Home::Local(of) => of == function,
-        Home::Result(of) => of == function,
-    }
-}
-
-fn is_parameter_of(function: usize, home: Home) -> bool
-    ensures { result ≡ is_parameter_of function home }
-{
-    match home {
-        Home::Global(_) => false,
-        Home::Param(of) => of == function,
-        Home::Local(_) => false,
-        Home::Result(_) => false,
     }
 }
