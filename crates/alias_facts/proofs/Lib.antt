@@ -1,1 +1,3 @@
 pub mod FlowLaws
+pub mod GrowthLaws
+pub mod FoundLaws

@@ -27,8 +27,11 @@ abbrev pub var_items : Table → ℕ → List ℕ
 var_items m k = items_of (slice_get m.vars k)
 
 -- the set of field f of site t
+abbrev pub cell_in : List (List Numbers) → ℕ → ℕ → Option Numbers
+cell_in cells t f = option_and_then (λ (row : List Numbers). slice_get row f) (slice_get cells t)
+
 abbrev pub cell_at : Table → ℕ → ℕ → Option Numbers
-cell_at m t f = option_and_then (λ (row : List Numbers). slice_get row f) (slice_get m.cells t)
+cell_at m t f = cell_in m.cells t f
 
 -- its sites
 abbrev pub cell_items : Table → ℕ → ℕ → List ℕ
