@@ -57,7 +57,7 @@ struct_from n g c t h = struct_by c (struct_of n g t) h
 pub of_struct : (n : Names) (g : Graph) (c t : ℕ) → struct_of n g t ≡ Some c → is_of_struct n g c t ≡ true
 of_struct n g c t h = ap (has (λ d. d == c)) h ∙ eq-eqb c c refl
 
-site_within : (n : Names) (g : Graph) (c t : ℕ) → struct_of n g t ≡ Some c → t < length n.sites
+pub site_within : (n : Names) (g : Graph) (c t : ℕ) → struct_of n g t ≡ Some c → t < length n.sites
 site_within n g c t h = by (slice_get n.sites t) refl
   where
     by : (o : Option ℕ) → slice_get n.sites t ≡ o → t < length n.sites

@@ -1,3 +1,4 @@
 pub mod FlowLaws
 pub mod GrowthLaws
 pub mod FoundLaws
+pub mod WritingLaws

@@ -1,2 +1,3 @@
 pub mod Flow
 pub mod Growth
+pub mod Writing

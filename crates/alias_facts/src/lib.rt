@@ -4,7 +4,9 @@
 mod bounds;
 mod found;
 mod table;
+mod writing;
 
 pub use bounds::Bounds;
 pub use found::{in_found, in_source, is_of_struct};
 pub use table::{Table, join_cell, join_var};
+pub use writing::settle;

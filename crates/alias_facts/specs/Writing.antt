@@ -1,0 +1,68 @@
+-- What a write does to a table, and a round over all writes.
+use Rattle.std.specs.Prelude.{◌≡◌, ℕ, ◌<◌, ◌≤◌, ◌==◌, ◌&&◌, ◌||◌, nat_lt, Bool, true, false, List, length}
+use Rattle.std.specs.List.{All}
+use Rattle.c_graph.specs.declared.graph.Graph.{Graph}
+use Rattle.mf_set.specs.Numbers.{Numbers, has as has_number}
+use Rattle.ts_domain.specs.declared.deed.Deed.{Deed}
+use Rattle.ts_domain.specs.declared.deed.Deed.TheVariants.{Reads, Follows, Says, Sets, SetsField}
+use Rattle.ts_domain.specs.declared.names.Names.{Names}
+use Rattle.ts_domain.specs.May.{IsDone}
+use Rattle.alias_facts.specs.declared.bounds.Bounds.{Bounds}
+use Rattle.alias_facts.specs.declared.table.Table.{Table}
+use Rattle.alias_facts.specs.Flow.{IsFieldSetBy, IsSetBy, IsSound, cell_items, is_of_struct}
+use Rattle.alias_facts.specs.Growth.{Grows, IsSized, SourceFits, missing_in}
+
+-- what a deed writes is within the bounds
+abbrev pub DeedFits : Bounds → Deed → Type 0
+DeedFits b (Reads r noted) = Unit {0}
+DeedFits b (Follows k) = Unit {0}
+DeedFits b (Says s) = Unit {0}
+DeedFits b (Sets k v) = (k < b.vars) × SourceFits b v
+DeedFits b (SetsField r c f v) = (f < b.fields) × SourceFits b v
+
+-- what a deed adds to a table
+abbrev pub IsApplied : Names → Graph → Deed → Table → Table → Type 0
+IsApplied n g (Reads r noted) old new = new ≡ old
+IsApplied n g (Follows k) old new = new ≡ old
+IsApplied n g (Says s) old new = new ≡ old
+IsApplied n g (Sets k v) old new = IsSetBy n g k v old new
+IsApplied n g (SetsField r c f v) old new = IsFieldSetBy n g r c f v old new
+
+-- a deed is applied, and whether that changed the table
+pub record Applies (n : Names) (g : Graph) (d : Deed) (changed : Bool) (old new : Table) : Type 0 where
+  pub grows : Grows changed old new
+  pub does : IsApplied n g d old new
+
+-- whether a site of the base is one that a write to a field of the struct writes
+abbrev pub is_target : Names → Graph → List ℕ → ℕ → ℕ → ℕ → ℕ → Bool
+is_target n g base c f t d = d == f && (has_number base t && is_of_struct n g c t)
+
+-- the targets below a site have got the numbers
+pub record TargetsBelow (n : Names) (g : Graph) (below : ℕ) (base : List ℕ) (c f : ℕ) (more : List ℕ) (changed : Bool) (old new : Table) : Type 0 where
+  pub grows : Grows changed old new
+  pub vars : new.vars ≡ old.vars
+  pub cells : (t d s : ℕ) → has_number (cell_items new t d) s ≡ (has_number (cell_items old t d) s || ((nat_lt t below && is_target n g base c f t d) && has_number more s))
+
+-- one site has got them, if it is a target
+pub record TargetAt (n : Names) (g : Graph) (site : ℕ) (base : List ℕ) (c f : ℕ) (more : List ℕ) (changed : Bool) (old new : Table) : Type 0 where
+  pub grows : Grows changed old new
+  pub vars : new.vars ≡ old.vars
+  pub cells : (t d s : ℕ) → has_number (cell_items new t d) s ≡ (has_number (cell_items old t d) s || ((t == site && is_target n g base c f t d) && has_number more s))
+
+-- some writes are applied in turn: a sound table stays sound, and where none of them changed it, it is closed under them
+pub record Rounds (n : Names) (g : Graph) (ds : List Deed) (changed : Bool) (old new : Table) : Type 0 where
+  pub grows : Grows changed old new
+  pub sound : IsSound n g old → IsSound n g new
+  pub closed : changed ≡ false → All (λ d. IsApplied n g d new new) ds
+
+-- all writes are applied until none of them changes the table
+pub record Settles (n : Names) (g : Graph) (ds : List Deed) (old new : Table) : Type 0 where
+  pub sized : IsSized new
+  pub sound : IsSound n g old → IsSound n g new
+  pub closed : All (λ d. IsApplied n g d new new) ds
+
+-- a table on the way
+pub record Settling (n : Names) (g : Graph) (old new : Table) : Type 0 where
+  pub sized : IsSized new
+  pub bounds : new.bounds ≡ old.bounds
+  pub sound : IsSound n g old → IsSound n g new
