@@ -1,14 +1,13 @@
 -- A sound table answers soundly, each write keeps it sound, and a table that is closed under all writes has all that flows.
-use Rattle.std.proofs.Common.{◌≡◌, ◌≢◌, ℕ, zero, suc, ◌+◌, ◌-◌, ◌<◌, ◌≤◌, ◌==◌, ◌&&◌, ◌||◌, ◌⊎◌, ⊎_elim, Bool, true, false, cond, nat_lt, List, [], ◌∷◌, length, slice_get, Option, Some, None, refl, ap, sym, subst, ◌∙◌, arith, eqb, ltb}
-use Rattle.std.specs.List.{filter, list_any, range_with_len}
-use Rattle.std.proofs.lemmas.Bool.{true≢false, false≢true, eqb-true, eq-eqb, ne_eqb, ltb-true, ltb-false, lt-ltb, or_cases, and_parts, and_from, cases_eq, or_left, or_right}
+use Rattle.std.proofs.Common.{◌≡◌, ℕ, zero, suc, ◌+◌, ◌-◌, ◌<◌, ◌≤◌, ◌==◌, ◌&&◌, ⊎_elim, Bool, true, false, cond, nat_lt, List, [], ◌∷◌, length, slice_get, Option, Some, None, refl, ap, sym, subst, ◌∙◌, arith, eqb, ltb}
+use Rattle.std.specs.List.{list_any, range_with_len}
+use Rattle.std.proofs.lemmas.Bool.{false≢true, eqb-true, eq-eqb, ltb-true, ltb-false, lt-ltb, or_cases, and_parts, and_from, cases_eq, or_left, or_right}
 use Rattle.std.proofs.lemmas.Option.{slice_get_within}
 use Rattle.c_tree.specs.Typing.{has}
 use Rattle.c_graph.specs.declared.graph.Graph.{Graph}
 use Rattle.mf_set.specs.Numbers.{Numbers, has as has_number}
 use Rattle.mf_set.proofs.NumberLaws.{has-filter}
 use Rattle.ts_domain.specs.declared.deed.Deed.TheVariants.{Sets, SetsField}
-use Rattle.ts_domain.specs.declared.deed.Looked.{Looked}
 use Rattle.ts_domain.specs.declared.deed.Source.{Source}
 use Rattle.ts_domain.specs.declared.deed.Source.TheVariants.{Content, Null, New, Undef}
 use Rattle.ts_domain.specs.declared.names.Names.{Names}
@@ -16,7 +15,7 @@ use Rattle.ts_domain.specs.declared.names.Read.{Read}
 use Rattle.ts_domain.specs.declared.names.Read.TheVariants as read
 use Rattle.ts_domain.specs.May.{Flows, IsDone, Variable, FieldOf, Found, Of, Term, read_of, struct_of}
 use Rattle.alias_facts.specs.declared.table.Table.{Table}
-use Rattle.alias_facts.specs.Flow.{IsClosed, IsFieldSetBy, IsSetBy, IsSound, cell_items, in_cells, in_field, in_found, in_source, in_term, is_of_struct, sites_of_struct, var_items, writes_cell}
+use Rattle.alias_facts.specs.Flow.{IsClosed, IsFieldSetBy, IsSetBy, IsSound, cell_items, in_field, in_found, in_source, in_term, is_of_struct, sites_of_struct, var_items, writes_cell}
 
 -- lists
 

@@ -1,14 +1,13 @@
 -- What joining more numbers to one set of a table does to the table.
-use Rattle.std.proofs.Common.{◌≡◌, ◌≢◌, ◌↔◌, ℕ, zero, suc, ◌+◌, ◌-◌, ◌<◌, ◌≤◌, ◌==◌, ◌&&◌, ◌||◌, ◌⊎◌, inl, inr, ⊎_elim, Bool, true, false, cond, List, [], ◌∷◌, length, set, slice_get, Option, Some, None, refl, ap, sym, subst, ◌∙◌, arith, eqb, ltb}
-use Rattle.std.proofs.lemmas.Bool.{true≢false, false≢true, eqb-true, eq-eqb, ne_eqb, cases_Bool, cases_eq}
+use Rattle.std.proofs.Common.{◌≡◌, ◌≢◌, ◌↔◌, ℕ, zero, suc, ◌+◌, ◌-◌, ◌<◌, ◌≤◌, ◌==◌, ◌&&◌, ◌||◌, ◌⊎◌, inl, inr, ⊎_elim, Bool, true, false, cond, List, [], ◌∷◌, length, set, slice_get, Option, Some, refl, ap, sym, subst, ◌∙◌, arith, eqb, ltb}
+use Rattle.std.proofs.lemmas.Bool.{true≢false, false≢true, eq-eqb, ne_eqb, cases_eq}
 use Rattle.std.specs.Option.{option_and_then}
 use Rattle.std.proofs.lemmas.List.{length-set}
 use Rattle.mf_set.specs.Numbers.{Numbers, IsSet, has as has_number, union, with_number}
 use Rattle.mf_set.proofs.NumberLaws.{has-union}
 use Rattle.mf_set.proofs.CountLaws.{length_within}
-use Rattle.alias_facts.specs.declared.bounds.Bounds.{Bounds}
 use Rattle.alias_facts.specs.declared.table.Table.{Table}
-use Rattle.alias_facts.specs.Flow.{cell_in, cell_items, items_of, var_items}
+use Rattle.alias_facts.specs.Flow.{cell_in, items_of}
 use Rattle.alias_facts.specs.Growth.{AreRooms, CellJoins, Grows, IsSized, Joins, VarJoins, missing, missing_in, missing_rows}
 
 -- a union that has a number more is longer
@@ -88,15 +87,15 @@ items_set : (old : List Numbers) (at : ℕ) (x y : Numbers) (more : List ℕ) �
 items_set old at x y more e is j s =
     ⊎_elim
     (λ same.
-        ap (λ i. has_number (items_of (slice_get (set old at y) i)) s) same
-        ∙ ap (λ (o : Option Numbers). has_number (items_of o) s) (get_set old at x y e)
-        ∙ ap (λ (xs : List ℕ). has_number xs s) is ∙ has-union x.items more s
-        ∙ ap (λ (o : Option Numbers). has_number (items_of o) s || has_number more s) (sym e)
-        ∙ ap (λ i. has_number (items_of (slice_get old i)) s || has_number more s) (sym same)
-        ∙ ap (λ b. has_number (items_of (slice_get old j)) s || (b && has_number more s)) (sym (eq-eqb j at same)))
+    ap (λ i. has_number (items_of (slice_get (set old at y) i)) s) same
+    ∙ ap (λ (o : Option Numbers). has_number (items_of o) s) (get_set old at x y e)
+    ∙ ap (λ (xs : List ℕ). has_number xs s) is ∙ has-union x.items more s
+    ∙ ap (λ (o : Option Numbers). has_number (items_of o) s || has_number more s) (sym e)
+    ∙ ap (λ i. has_number (items_of (slice_get old i)) s || has_number more s) (sym same)
+    ∙ ap (λ b. has_number (items_of (slice_get old j)) s || (b && has_number more s)) (sym (eq-eqb j at same)))
     (λ other.
-        ap (λ (o : Option Numbers). has_number (items_of o) s) (get_other old at j y other)
-        ∙ or_none (has_number (items_of (slice_get old j)) s) (j == at && has_number more s) (ap (λ b. b && has_number more s) (ne_eqb j at other)))
+    ap (λ (o : Option Numbers). has_number (items_of o) s) (get_other old at j y other)
+    ∙ or_none (has_number (items_of (slice_get old j)) s) (j == at && has_number more s) (ap (λ b. b && has_number more s) (ne_eqb j at other)))
     (cases_eq j at)
 
 shrinks : (x y : Numbers) (more : List ℕ) (changed : Bool) → y ≡ record x { items = union x.items more } → ((changed ≡ false) ↔ (y ≡ x)) → IsSet y → changed ≡ true → y.room - length y.items < x.room - length x.items
@@ -139,15 +138,15 @@ cells_set : (old : List (List Numbers)) (t f : ℕ) (row row' : List Numbers) (m
 cells_set old t f row row' more e is u d s =
     ⊎_elim
     (λ same.
-        ap (λ i. has_number (items_of (cell_in (set old t row') i d)) s) same
-        ∙ ap (λ (o : Option (List Numbers)). has_number (items_of (option_and_then (λ (r : List Numbers). slice_get r d) o)) s) (get_set old t row row' e)
-        ∙ is d s
-        ∙ ap (λ (o : Option (List Numbers)). has_number (items_of (option_and_then (λ (r : List Numbers). slice_get r d) o)) s || (d == f && has_number more s)) (sym e)
-        ∙ ap (λ i. has_number (items_of (cell_in old i d)) s || (d == f && has_number more s)) (sym same)
-        ∙ ap (λ b. has_number (items_of (cell_in old u d)) s || ((b && d == f) && has_number more s)) (sym (eq-eqb u t same)))
+    ap (λ i. has_number (items_of (cell_in (set old t row') i d)) s) same
+    ∙ ap (λ (o : Option (List Numbers)). has_number (items_of (option_and_then (λ (r : List Numbers). slice_get r d) o)) s) (get_set old t row row' e)
+    ∙ is d s
+    ∙ ap (λ (o : Option (List Numbers)). has_number (items_of (option_and_then (λ (r : List Numbers). slice_get r d) o)) s || (d == f && has_number more s)) (sym e)
+    ∙ ap (λ i. has_number (items_of (cell_in old i d)) s || (d == f && has_number more s)) (sym same)
+    ∙ ap (λ b. has_number (items_of (cell_in old u d)) s || ((b && d == f) && has_number more s)) (sym (eq-eqb u t same)))
     (λ other.
-        ap (λ (o : Option (List Numbers)). has_number (items_of (option_and_then (λ (r : List Numbers). slice_get r d) o)) s) (get_other old t u row' other)
-        ∙ or_none (has_number (items_of (cell_in old u d)) s) ((u == t && d == f) && has_number more s) (ap (λ b. (b && d == f) && has_number more s) (ne_eqb u t other)))
+    ap (λ (o : Option (List Numbers)). has_number (items_of (option_and_then (λ (r : List Numbers). slice_get r d) o)) s) (get_other old t u row' other)
+    ∙ or_none (has_number (items_of (cell_in old u d)) s) ((u == t && d == f) && has_number more s) (ap (λ b. (b && d == f) && has_number more s) (ne_eqb u t other)))
     (cases_eq u t)
 
 pub cell_joins : (t f : ℕ) (more : List ℕ) (changed : Bool) (old : Table) (row row' : List Numbers) → IsSized old → slice_get old.cells t ≡ Some row → Joins old.bounds.sites f more changed row row'

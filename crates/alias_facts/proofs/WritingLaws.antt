@@ -1,9 +1,9 @@
 -- What the writes of a round do to a table, put together from their parts.
-use Rattle.std.proofs.Common.{◌≡◌, ◌≢◌, ℕ, zero, suc, ◌+◌, ◌<◌, ◌≤◌, ◌==◌, ◌&&◌, ◌||◌, ⊎_elim, Bool, true, false, nat_lt, List, [], ◌∷◌, ◌++◌, length, take, get_or, refl, ap, sym, subst, ◌∙◌, arith, eqb, ltb}
+use Rattle.std.proofs.Common.{◌≡◌, ℕ, ◌+◌, ◌<◌, ◌==◌, ◌&&◌, ◌||◌, ⊎_elim, Bool, true, false, nat_lt, List, [], length, take, get_or, refl, ap, sym, subst, ◌∙◌, arith}
 use Rattle.std.specs.List.{All}
 use Rattle.std.proofs.lemmas.List.{take_more}
 use Rattle.std.proofs.lemmas.List.Elements.{All-push}
-use Rattle.std.proofs.lemmas.Bool.{true≢false, false≢true, eqb-true, eq-eqb, ne_eqb, lt-ltb, cases_Bool, cases_eq, and_parts, or_cases, or_left, or_right}
+use Rattle.std.proofs.lemmas.Bool.{true≢false, false≢true, ne_eqb, lt-ltb, cases_eq, and_parts}
 use Rattle.c_graph.specs.declared.graph.Graph.{Graph}
 use Rattle.mf_set.specs.Numbers.{Numbers, has as has_number}
 use Rattle.ts_domain.specs.declared.deed.Deed.{Deed}
@@ -13,8 +13,8 @@ use Rattle.ts_domain.specs.declared.names.Names.{Names}
 use Rattle.ts_domain.specs.declared.names.Read.{Read}
 use Rattle.ts_domain.specs.May.{IsDone}
 use Rattle.alias_facts.specs.declared.table.Table.{Table}
-use Rattle.alias_facts.specs.Flow.{IsFieldSetBy, IsSetBy, IsSound, cell_items, in_found, in_source, is_of_struct, var_items, writes_cell}
-use Rattle.alias_facts.specs.Growth.{CellJoins, Grows, IsFound, IsSized, VarJoins, missing_in}
+use Rattle.alias_facts.specs.Flow.{IsSound, cell_items, in_found, in_source, is_of_struct, var_items, writes_cell}
+use Rattle.alias_facts.specs.Growth.{CellJoins, Grows, IsFound, IsSized, VarJoins}
 use Rattle.alias_facts.specs.Writing.{Applies, IsApplied, Rounds, Settles, Settling, TargetAt, TargetsBelow, is_target}
 use Rattle.alias_facts.proofs.FlowLaws.{field_set_sound, set_sound, site_within, struct_from}
 use Rattle.alias_facts.proofs.GrowthLaws.{grows_on}
@@ -165,7 +165,7 @@ rounds_more n g ds i d a b x y z within is done p q = record {
       let same : z ≡ y = q.grows.same (not_right a b none) in
       let here : IsApplied n g d z z = subst (λ (m : Table). IsApplied n g d m z) (sym same) q.does in
       all_more (λ e. IsApplied n g e z z) ds i d within (subst (λ e. IsApplied n g e z z) (sym is) here)
-          (subst (λ (m : Table). All (λ e. IsApplied n g e m m) (take i ds)) (sym same) (p.closed (not_left a b none)));
+      (subst (λ (m : Table). All (λ e. IsApplied n g e m m) (take i ds)) (sym same) (p.closed (not_left a b none)));
 }
 
 pub settling_none : (n : Names) (g : Graph) (m : Table) → IsSized m → Settling n g m m
@@ -175,4 +175,4 @@ pub settling_more : (n : Names) (g : Graph) (ds : List Deed) (b : Bool) (x y z :
 settling_more n g ds b x y z p q = record { sized = q.grows.sized; bounds = q.grows.bounds ∙ p.bounds; sound = λ h. q.sound (p.sound h) }
 
 pub settled : (n : Names) (g : Graph) (ds : List Deed) (b : Bool) (x y z : Table) → b ≡ false → Settling n g x y → Rounds n g ds b y z → Settles n g ds x z
-settled n g ds b x y z none p q = record { sized = q.grows.sized; sound = λ h. q.sound (p.sound h); closed = q.closed none }
+settled n g ds b x y z none p q = record { sized = q.grows.sized; bounds = q.grows.bounds ∙ p.bounds; sound = λ h. q.sound (p.sound h); closed = q.closed none }

@@ -1,12 +1,11 @@
 -- What a table of flows finds for reads and sources, and what it means that it is sound, and that it is closed under all writes.
-use Rattle.std.specs.Prelude.{◌≡◌, ℕ, ◌+◌, ◌-◌, ◌<◌, ◌==◌, ◌&&◌, ◌||◌, Bool, true, false, nat_lt, List, [], ◌∷◌, length, slice_get, Option, None, Some, if◌then◌else◌}
+use Rattle.std.specs.Prelude.{◌≡◌, ℕ, ◌-◌, ◌==◌, ◌&&◌, ◌||◌, Bool, true, false, nat_lt, List, [], length, slice_get, Option, None, Some, if◌then◌else◌}
 use Rattle.std.specs.List.{filter, list_any, range_with_len}
 use Rattle.std.specs.Option.{option_and_then}
 use Rattle.c_tree.specs.Typing.{has}
 use Rattle.c_graph.specs.declared.graph.Graph.{Graph}
 use Rattle.mf_set.specs.Numbers.{Numbers, has as has_number}
 use Rattle.ts_domain.specs.declared.deed.Deed.TheVariants.{Sets, SetsField}
-use Rattle.ts_domain.specs.declared.deed.Looked.{Looked}
 use Rattle.ts_domain.specs.declared.deed.Source.{Source}
 use Rattle.ts_domain.specs.declared.deed.Source.TheVariants.{Content, Null, New, Undef}
 use Rattle.ts_domain.specs.declared.names.Names.{Names}

@@ -1,11 +1,11 @@
 -- Tables that grow: their rooms, how many sites they could still get, and what joining more sites to one of their sets does.
-use Rattle.std.specs.Prelude.{◌≡◌, ℕ, ◌+◌, ◌-◌, ◌<◌, ◌==◌, ◌&&◌, ◌||◌, Bool, true, false, List, [], ◌∷◌, length, slice_get, Option, None, Some}
+use Rattle.std.specs.Prelude.{◌≡◌, ℕ, ◌+◌, ◌-◌, ◌<◌, ◌==◌, ◌&&◌, ◌||◌, Bool, true, false, List, [], ◌∷◌, length, slice_get, Some}
 use Rattle.ts_domain.specs.declared.deed.Source.{Source}
 use Rattle.ts_domain.specs.declared.deed.Source.TheVariants.{Content, Null, New, Undef}
 use Rattle.mf_set.specs.Numbers.{Numbers, has as has_number}
 use Rattle.alias_facts.specs.declared.bounds.Bounds.{Bounds}
 use Rattle.alias_facts.specs.declared.table.Table.{Table}
-use Rattle.alias_facts.specs.Flow.{cell_in, cell_items, items_of, var_items}
+use Rattle.alias_facts.specs.Flow.{cell_items, items_of, var_items}
 
 -- all sets have that room
 abbrev pub AreRooms : ℕ → List Numbers → Type 0

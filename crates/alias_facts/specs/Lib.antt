@@ -1,3 +1,5 @@
 pub mod Flow
 pub mod Growth
 pub mod Writing
+pub mod Writes
+pub mod Answer

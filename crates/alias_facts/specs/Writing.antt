@@ -1,16 +1,15 @@
 -- What a write does to a table, and a round over all writes.
-use Rattle.std.specs.Prelude.{◌≡◌, ℕ, ◌<◌, ◌≤◌, ◌==◌, ◌&&◌, ◌||◌, nat_lt, Bool, true, false, List, length}
+use Rattle.std.specs.Prelude.{◌≡◌, ℕ, ◌<◌, ◌≤◌, ◌==◌, ◌&&◌, ◌||◌, nat_lt, Bool, false, List, length}
 use Rattle.std.specs.List.{All}
 use Rattle.c_graph.specs.declared.graph.Graph.{Graph}
-use Rattle.mf_set.specs.Numbers.{Numbers, has as has_number}
+use Rattle.mf_set.specs.Numbers.{has as has_number}
 use Rattle.ts_domain.specs.declared.deed.Deed.{Deed}
 use Rattle.ts_domain.specs.declared.deed.Deed.TheVariants.{Reads, Follows, Says, Sets, SetsField}
 use Rattle.ts_domain.specs.declared.names.Names.{Names}
-use Rattle.ts_domain.specs.May.{IsDone}
 use Rattle.alias_facts.specs.declared.bounds.Bounds.{Bounds}
 use Rattle.alias_facts.specs.declared.table.Table.{Table}
 use Rattle.alias_facts.specs.Flow.{IsFieldSetBy, IsSetBy, IsSound, cell_items, is_of_struct}
-use Rattle.alias_facts.specs.Growth.{Grows, IsSized, SourceFits, missing_in}
+use Rattle.alias_facts.specs.Growth.{Grows, IsSized, SourceFits}
 
 -- what a deed writes is within the bounds
 abbrev pub DeedFits : Bounds → Deed → Type 0
@@ -58,6 +57,7 @@ pub record Rounds (n : Names) (g : Graph) (ds : List Deed) (changed : Bool) (old
 -- all writes are applied until none of them changes the table
 pub record Settles (n : Names) (g : Graph) (ds : List Deed) (old new : Table) : Type 0 where
   pub sized : IsSized new
+  pub bounds : new.bounds ≡ old.bounds
   pub sound : IsSound n g old → IsSound n g new
   pub closed : All (λ d. IsApplied n g d new new) ds
 
@@ -66,3 +66,9 @@ pub record Settling (n : Names) (g : Graph) (old new : Table) : Type 0 where
   pub sized : IsSized new
   pub bounds : new.bounds ≡ old.bounds
   pub sound : IsSound n g old → IsSound n g new
+
+-- a table of all that flows by some writes
+pub record Ended (n : Names) (g : Graph) (ds : List Deed) (m : Table) : Type 0 where
+  pub vars : length n.vars ≤ length m.vars
+  pub sound : IsSound n g m
+  pub closed : All (λ d. IsApplied n g d m m) ds

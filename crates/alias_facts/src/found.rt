@@ -100,12 +100,7 @@ fn add_cell(set: &mut BitSet, table: &Table, site: usize, field: usize)
 }
 
 /// The sites that flow to a field of one of these sites.
-fn in_cells(
-    alloc: Global,
-    table: &Table,
-    sites: &[usize],
-    field: usize,
-) -> Result<BitSet, Memory>
+fn in_cells(alloc: Global, table: &Table, sites: &[usize], field: usize) -> Result<BitSet, Memory>
     requires { IsSized table.now }
     ensures { IfOk result (IsFound table.now.bounds.sites (in_cells table.now field sites.now)) }
 {
@@ -119,11 +114,7 @@ fn in_cells(
 fn push_if(list: &mut Seq<usize>, passes: bool, item: usize) -> Result<(), Memory>
     ensures { OnOk result (list.new ≡ list.old ++ cond passes (item ∷ []) []) }
 {
-    if passes {
-        list.push(item)
-    } else {
-        Ok(())
-    }
+    if passes { list.push(item) } else { Ok(()) }
 }
 
 /// The sites that make objects of a struct.
@@ -167,11 +158,7 @@ fn sites_of_var(alloc: Global, table: &Table, variable: usize) -> Result<Seq<usi
     }
 }
 
-fn in_field(
-    alloc: Global,
-    table: &Table,
-    field: Option<(usize, usize)>,
-) -> Result<BitSet, Memory>
+fn in_field(alloc: Global, table: &Table, field: Option<(usize, usize)>) -> Result<BitSet, Memory>
     requires { IsSized table.now }
     ensures { IfOk result (IsFound table.now.bounds.sites (in_field table.now field)) }
 {

@@ -1,12 +1,13 @@
 //! Which sites flow to which pointer variables and fields.
 #![tactic(auto)]
 
+mod answers;
 mod bounds;
+mod flows;
 mod found;
+mod start;
 mod table;
+mod writes;
 mod writing;
 
-pub use bounds::Bounds;
-pub use found::{in_found, in_source, is_of_struct};
-pub use table::{Table, join_cell, join_var};
-pub use writing::settle;
+pub use flows::may;

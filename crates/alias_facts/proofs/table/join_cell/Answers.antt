@@ -1,5 +1,4 @@
-use Rattle.std.proofs.Common.{rules, Bool, List, subst}
-use Rattle.mf_set.specs.Numbers.{Numbers}
+use Rattle.std.proofs.Common.{subst}
 use Rattle.alias_facts.specs.Growth.{Joins}
 use Rattle.alias_facts.proofs.GrowthLaws.{cell_joins}
 use Rattle.alias_facts.proofs.table.join_cell.Goals as goal

@@ -1,4 +1,4 @@
-use Rattle.std.proofs.Common.{rules, ◌≡◌, get_or, sym, false}
+use Rattle.std.proofs.Common.{rules, get_or, sym, false}
 use Rattle.std.proofs.lemmas.List.{get_or_default}
 use Rattle.ts_domain.specs.declared.deed.Deed.{Deed}
 use Rattle.ts_domain.specs.declared.deed.Deed.TheVariants.{Reads}
@@ -17,4 +17,4 @@ loop-write-preserved c =
     let applied : Applies n g d c.in_ok-changed.field-0 c.loop-write.table c.apply.new.table = search rules in
     let done : IsDone n g d = c.requires.done i (Reads (read.Name 0) false) c.loop-write-test.true in
     rounds_more n g c.args.writes.now i d c.loop-write.changed c.in_ok-changed.field-0 c.args.table.now c.loop-write.table c.apply.new.table c.loop-write-test.true
-        (sym (get_or_default c.args.writes.now i (Reads (read.Name 0) false) d c.loop-write-test.true)) done c.loop-write.invariant applied
+    (sym (get_or_default c.args.writes.now i (Reads (read.Name 0) false) d c.loop-write-test.true)) done c.loop-write.invariant applied

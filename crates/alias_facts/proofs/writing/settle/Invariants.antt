@@ -1,4 +1,3 @@
-use Rattle.std.proofs.Common.{ℕ}
 use Rattle.alias_facts.specs.Growth.{missing_in}
 use Rattle.alias_facts.specs.Writing.{Settling}
 use Rattle.alias_facts.proofs.writing.settle.Given as goal
