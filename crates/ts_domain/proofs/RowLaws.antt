@@ -43,6 +43,16 @@ range_last : (a n j : ℕ) → a + n ≡ j → range_with_len a (suc n) ≡ rang
 range_last a zero j e = let same : a ≡ j = omega arith in ap (λ k. k ∷ []) same
 range_last a (suc n) j e = ap (λ l. a ∷ l) (range_last (a + 1) n j (omega arith))
 
+-- one place more that passes a test
+pub passing_more : {A : Type 0} (test : A → Bool) (xs : List A) (i : ℕ) (x : A) → slice_get xs i ≡ Some x
+    → filter (λ j. has test (slice_get xs j)) (range_with_len 0 (i + 1)) ≡ filter (λ j. has test (slice_get xs j)) (range_with_len 0 i) ++ cond (test x) (i ∷ []) []
+passing_more {A} test xs i x at =
+    let on : i + 1 ≡ suc i = omega arith in
+    ap (λ n. filter (λ j. has test (slice_get xs j)) (range_with_len 0 n)) on
+    ∙ ap (filter (λ j. has test (slice_get xs j))) (range_last 0 i i (omega arith))
+    ∙ filter-append (λ j. has test (slice_get xs j)) (range_with_len 0 i) (i ∷ [])
+    ∙ ap (λ (o : Option A). filter (λ j. has test (slice_get xs j)) (range_with_len 0 i) ++ cond (has test o) (i ∷ []) []) at
+
 place_at : (p : ℕ → Bool) (i : ℕ) (b : Bool) → p i ≡ b → filter p (i ∷ []) ≡ cond b (i ∷ []) []
 place_at p i true e = rw e refl
 place_at p i false e = rw e refl

@@ -6,3 +6,4 @@ pub mod Facts
 pub mod Path
 pub mod Rows
 pub mod Tables
+pub mod Numbering
