@@ -23,6 +23,6 @@ pub use facts::{Facts, May, Path};
 pub use graph_deeds::all_deeds;
 pub use marks::{Alias, Mark, Step};
 pub use names::{Names, Read};
-pub use numbering::{pointer_fields, pointer_vars, sites_of};
+pub use numbering::{pointer_fields, pointer_vars, pointing_fields, sites_of};
 pub use pointers::Pointer;
 pub use triples::{Derived, Triple};
