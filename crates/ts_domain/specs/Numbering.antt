@@ -7,7 +7,6 @@ use Rattle.c_tree.specs.declared.program.StructDef.{StructDef}
 use Rattle.c_tree.specs.declared.program.Ty.{Ty}
 use Rattle.c_tree.specs.declared.program.Ty.TheVariants as ty
 use Rattle.c_tree.specs.declared.program.VarDef.{VarDef}
-use Rattle.c_graph.specs.declared.graph.Action.{Action}
 use Rattle.c_graph.specs.declared.graph.Action.TheVariants as action
 use Rattle.c_graph.specs.declared.graph.Node.{Node}
 use Rattle.c_graph.specs.declared.graph.NodeKind.{NodeKind}
