@@ -27,10 +27,6 @@ pub mod ProgramVariables
 pub mod Rows
 pub mod Standing
 pub mod TableLemmas
-mod ScopeAscends
-mod ScopeNumbers
-mod ScopeOrder
-mod SightLaws
 mod StatementLaws
 pub mod VisibleParts
 pub mod VisibleBlocks

@@ -9,9 +9,7 @@ pub mod Judged
 pub mod Offsets
 pub mod Peeling
 pub mod Program
-pub mod ScopeAt
 pub mod Scopes
-pub mod Sights
 pub mod Statements
 pub mod Structs
 pub mod Tables

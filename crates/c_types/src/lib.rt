@@ -23,9 +23,9 @@ mod scope;
 mod statements;
 mod structs;
 mod untyped;
-mod visible;
 
 pub use answer::resolve;
+pub use c_scopes::scope_at;
 pub use cycles::first_cycle;
 pub use faults::{Fault, Rule, least};
 pub use flow::flow_of;
@@ -39,4 +39,3 @@ pub use scope::{
     BaseType, Entry, Heading, Meaning, Nesting, Returned, Scope, Signature, StructRow, Walk,
     Written,
 };
-pub use visible::{GapScope, Sight, Wanted, scope_at, scopes};

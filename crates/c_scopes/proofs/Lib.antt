@@ -1,0 +1,5 @@
+pub mod ScopeAscends
+pub mod ScopeNumbers
+pub mod ScopeOrder
+mod TurnLaws
+pub mod TurnRows
