@@ -9,11 +9,11 @@ pub mod Instance
 pub mod MetRuns
 pub mod FilledGraphs
 mod PlacesApart
-mod WholeParts
-mod CallsStand
-mod Lands
+pub mod WholeParts
+pub mod CallsStand
+pub mod Lands
 mod Braces
-mod Homes
+pub mod Homes
 pub mod EdgeWays
 pub mod EdgeEnds
 pub mod Outcomes

@@ -39,6 +39,16 @@ impl BitSet {
         Ok(BitSet { words, room: n })
     }
 
+    /// The set that has no room, which allocates nothing.
+    pub fn empty(alloc: Global) -> BitSet
+        ensures { result ≡ record { items = []; room = 0 } }
+    {
+        BitSet {
+            words: Vec::new(alloc),
+            room: 0,
+        }
+    }
+
     /// The same set once more.
     pub fn copy(&self, alloc: Global) -> Result<BitSet, Memory>
         ensures copy { IfOk result (λ s. s ≡ self.now) }

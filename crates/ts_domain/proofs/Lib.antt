@@ -1,3 +1,34 @@
+pub mod Answers
 pub mod Arguments
+pub mod Assigns
+pub mod Bridge
+pub mod Calls
+pub mod CallsApart
+pub mod Courses
+pub mod Evaluations
+pub mod Expressions
+pub mod FactsTrue
+pub mod Frees
+pub mod MayRuns
+pub mod MayTrue
+pub mod NameLaws
+pub mod NewObjects
+pub mod Parameters
+pub mod PathTrue
+pub mod PointerSorts
+pub mod Returns
 pub mod RowLaws
+pub mod ScopedCalls
+pub mod Stores
 pub mod TableLaws
+mod PutLaws
+mod PutOrder
+pub mod Tests
+pub mod TypedNodes
+pub mod TypedPlaces
+pub mod TypedRuns
+pub mod PlaceWrites
+mod SiteLaws
+mod FactNumbers
+mod MarkLaws
+mod EntryLaws

@@ -39,7 +39,7 @@ row_added_by rows key place r h k false e =
 pub row_added : (rows : List (List ℕ)) (key place : ℕ) (r : List ℕ) → slice_get rows key ≡ Some r → (k : ℕ) → row (set rows key (r ++ place ∷ [])) k ≡ row rows k ++ place_if k (Some key) place
 row_added rows key place r h k = row_added_by rows key place r h k (key == k) refl
 
-range_last : (a n j : ℕ) → a + n ≡ j → range_with_len a (suc n) ≡ range_with_len a n ++ j ∷ []
+pub range_last : (a n j : ℕ) → a + n ≡ j → range_with_len a (suc n) ≡ range_with_len a n ++ j ∷ []
 range_last a zero j e = let same : a ≡ j = omega arith in ap (λ k. k ∷ []) same
 range_last a (suc n) j e = ap (λ l. a ∷ l) (range_last (a + 1) n j (omega arith))
 

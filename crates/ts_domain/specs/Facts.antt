@@ -1,6 +1,10 @@
 -- The numbers of facts, and what has to hold before a deed so that a fact holds behind it.
 use Rattle.std.specs.Prelude.{ℕ, zero, suc, ◌+◌, ◌-◌, ◌==◌, ◌&&◌, ◌||◌, nat_lt, Bool, true, false, List, [], ◌∷◌, length, slice_get, option_map, Option, None, Some, if◌then◌else◌}
 use Rattle.std.specs.Option.{option_and_then}
+use Rattle.ts_domain.specs.declared.before.Before.{Before}
+use Rattle.ts_domain.specs.declared.before.Before.TheVariants.{Always, Never, Where}
+use Rattle.ts_domain.specs.declared.before.Given.{Given}
+use Rattle.ts_domain.specs.declared.before.Given.TheVariants.{Copied, Loaded, Nothing, Fresh, Unset}
 use Rattle.ts_domain.specs.declared.deed.Deed.{Deed}
 use Rattle.ts_domain.specs.declared.deed.Deed.TheVariants.{Reads, Follows, Says, Sets, SetsField}
 use Rattle.ts_domain.specs.declared.deed.Looked.{Looked}
@@ -43,50 +47,64 @@ fact_number n w (Apart x y) = n + n + w + pair_count n + pair_number n x y
 abbrev pub fact_count : ℕ → ℕ → ℕ
 fact_count n w = n + n + w + pair_count n + pair_count n
 
+-- the pair of a number, by the same recursion
+abbrev pub next_pair : ℕ × ℕ → ℕ × ℕ
+next_pair p = (suc p.0, suc p.1)
+
+abbrev pub pair_at : ℕ → ℕ → Option (ℕ × ℕ)
+pair_at zero k = None
+pair_at (suc n) k = if nat_lt k n then Some (0, suc k) else option_map next_pair (pair_at n (k - n))
+
+-- the fact of a number
+abbrev pub fact_at : ℕ → ℕ → ℕ → Option Fact
+fact_at n w k =
+    if nat_lt k n then Some (Ready k) else
+    if nat_lt k (n + n) then Some (Full (k - n)) else
+    if nat_lt k (n + n + w) then Some (Filled (k - (n + n))) else
+    if nat_lt k (n + n + w + pair_count n) then option_map (λ (p : ℕ × ℕ). Equal p.0 p.1) (pair_at n (k - (n + n + w))) else
+    option_map (λ (p : ℕ × ℕ). Apart p.0 p.1) (pair_at n (k - (n + n + w + pair_count n)))
+
 -- the number of a fact
 abbrev pub number_of : Names → Fact → ℕ
 number_of n f = fact_number (length n.vars) (length n.fields) f
 
 -- the variables and the field of a fact exist, and those of a pair ascend
+abbrev pub exists : ℕ → ℕ → Fact → Bool
+exists n w (Ready x) = nat_lt x n
+exists n w (Full x) = nat_lt x n
+exists n w (Filled j) = nat_lt j w
+exists n w (Equal x y) = nat_lt x y && nat_lt y n
+exists n w (Apart x y) = nat_lt x y && nat_lt y n
+
 abbrev pub is_fact : Names → Fact → Bool
-is_fact n (Ready x) = nat_lt x (length n.vars)
-is_fact n (Full x) = nat_lt x (length n.vars)
-is_fact n (Filled j) = nat_lt j (length n.fields)
-is_fact n (Equal x y) = nat_lt x y && nat_lt y (length n.vars)
-is_fact n (Apart x y) = nat_lt x y && nat_lt y (length n.vars)
+is_fact n f = exists (length n.vars) (length n.fields) f
 
 -- pre-facts
 
--- when a fact holds behind a deed: always, never, or where another held before it
-pub data Before : Type 0 where
-  Always : Before
-  Never : Before
-  Where : (f : Fact) → Before
+-- a pair in its order
+abbrev pub equal_pair : ℕ → ℕ → Fact
+equal_pair x y = if nat_lt x y then Equal x y else Equal y x
 
--- a pair in its order; a variable is equal to itself and not apart from itself
+abbrev pub apart_pair : ℕ → ℕ → Fact
+apart_pair x y = if nat_lt x y then Apart x y else Apart y x
+
+-- a variable is equal to itself and not apart from itself
 abbrev pub equal : ℕ → ℕ → Before
-equal x y = if x == y then Always else Where (if nat_lt x y then Equal x y else Equal y x)
+equal x y = if x == y then Always else Where (equal_pair x y)
 
 abbrev pub apart : ℕ → ℕ → Before
-apart x y = if x == y then Never else Where (if nat_lt x y then Apart x y else Apart y x)
+apart x y = if x == y then Never else Where (apart_pair x y)
 
 -- the field f of another variable, which has one of the same struct
-abbrev pub filled : Names → ℕ → Option ℕ → Before
-filled n f None = Never
-filled n f (Some j) = Where (Filled j)
+abbrev pub filled : Option ℕ → Before
+filled None = Never
+filled (Some j) = Where (Filled j)
 
 abbrev pub if_so : Bool → Before
 if_so true = Always
 if_so false = Never
 
--- what a variable gets, as far as facts tell: a variable's content, a content that was read from a field, or another
-pub data Given : Type 0 where
-  Copied : (y : ℕ) → Given
-  Loaded : Given
-  Nothing : Given
-  Fresh : Given
-  Unset : Given
-
+-- what a write gives a variable, as far as facts tell
 abbrev pub given_read : Names → Looked → Given
 given_read n (looked.Name k) = if nat_lt k (length n.vars) then Copied k else Loaded
 given_read n (looked.Deep s f note) = Loaded
@@ -115,7 +133,7 @@ full_of Unset = Never
 
 -- its field f is set where it holds no object, or where the other's is
 abbrev pub filled_of : Names → ℕ → Given → Before
-filled_of n f (Copied y) = filled n f (field_place n.fields y f)
+filled_of n f (Copied y) = filled (field_place n.fields y f)
 filled_of n f Loaded = Never
 filled_of n f Nothing = Always
 filled_of n f Fresh = Never

@@ -7,3 +7,14 @@ pub mod Path
 pub mod Rows
 pub mod Tables
 pub mod Numbering
+pub mod Puts
+pub mod TypedGraphs
+pub mod TypedMachines
+pub mod Views
+pub mod Truth
+pub mod Cover
+pub mod Marks
+pub mod Aliases
+pub mod MarkWrites
+pub mod SameEntries
+pub mod Post

@@ -1,6 +1,6 @@
 -- Which sites flow where: an object of a site may come to a variable, or to a field of the objects of a site, by some write.
-use Rattle.std.specs.Prelude.{◌≡◌, ◌↔◌, ℕ, ◌+◌, ◌<◌, ◌==◌, ◌&&◌, Bool, true, false, List, [], ◌∷◌, length, slice_get, Option, None, Some}
-use Rattle.std.specs.List.{All, Contains, list_any}
+use Rattle.std.specs.Prelude.{◌≡◌, ◌≢◌, ◌↔◌, ◌⊎◌, ℕ, ◌+◌, ◌<◌, ◌==◌, ◌&&◌, Bool, true, false, List, [], ◌∷◌, length, slice_get, Option, None, Some}
+use Rattle.std.specs.List.{All, AllPairs, Contains, list_any}
 use Rattle.std.specs.Option.{option_and_then}
 use Rattle.c_tree.specs.Typing.{has}
 use Rattle.c_tree.specs.declared.program.Size.{Size}
@@ -85,8 +85,17 @@ flows_to m k s = has (λ (x : Numbers). has_number x.items s) (slice_get m.vars 
 abbrev pub flows_into : May → ℕ → ℕ → ℕ → Bool
 flows_into m t f s = list_any (λ (x : ℕ × ℕ × Numbers). x.0 == t && x.1 == f && has_number x.2.items s) m.fields
 
--- the sites that flow to variables and to fields are those of the relation
+-- an entry stands before another: by site, and then by field
+abbrev pub precedes : ℕ × ℕ × Numbers → ℕ × ℕ × Numbers → Type 0
+precedes x y = (x.0 < y.0) ⊎ ((x.0 ≡ y.0) × (x.1 < y.1))
+
+-- the sites that flow to variables and to fields are those of the relation, in sets with room for all sites; the fields to
+-- which some site flows stand in order, each once
 pub record IsMay (n : Names) (g : Graph) (m : May) : Type 0 where
   pub counted : length m.vars ≡ length n.vars
   pub variables : (k s : ℕ) → k < length n.vars → (flows_to m k s ≡ true) ↔ Flows n g s (Variable k)
   pub fields : (t f s : ℕ) → (flows_into m t f s ≡ true) ↔ Flows n g s (FieldOf t f)
+  pub var_rooms : All (λ (x : Numbers). x.room ≡ length n.sites) m.vars
+  pub field_rooms : All (λ (x : ℕ × ℕ × Numbers). x.2.room ≡ length n.sites) m.fields
+  pub some : All (λ (x : ℕ × ℕ × Numbers). x.2.items ≢ []) m.fields
+  pub ascending : AllPairs precedes m.fields

@@ -8,12 +8,14 @@ use Rattle.c_tree.specs.declared.program.Home.TheVariants as home
 use Rattle.c_graph.specs.declared.graph.Edge.{Edge}
 use Rattle.c_graph.specs.declared.graph.Graph.{Graph}
 use Rattle.mf_set.specs.Numbers.{Numbers, has as has_number}
+use Rattle.ts_domain.specs.declared.before.Before.{Before}
+use Rattle.ts_domain.specs.declared.before.Before.TheVariants.{Never, Where}
 use Rattle.ts_domain.specs.declared.fact.Fact.{Fact}
 use Rattle.ts_domain.specs.declared.fact.Fact.TheVariants.{Ready, Full, Filled, Equal, Apart}
 use Rattle.ts_domain.specs.declared.facts.Path.{Path}
 use Rattle.ts_domain.specs.declared.names.Names.{Names}
 use Rattle.ts_domain.specs.Deeds.{edge_deeds}
-use Rattle.ts_domain.specs.Facts.{Before, Never, Where, before_deeds, fact_count, is_fact, number_of}
+use Rattle.ts_domain.specs.Facts.{before_deeds, fact_count, is_fact, number_of}
 use Rattle.ts_domain.specs.Pointers.{has_home}
 
 -- the nodes to which edges lead from node 0

@@ -83,3 +83,16 @@ pub fn all_deeds(alloc: Global, graph: &Graph, names: &Names) -> Result<Seq<Seq<
     }
     Ok(list)
 }
+
+/// What goes over one edge does to pointers. It looks at the whole graph; where many edges are asked for take `all_deeds`.
+pub fn deeds_of(
+    alloc: Global,
+    graph: &Graph,
+    names: &Names,
+    edge: Edge,
+) -> Result<Seq<Deed>, Memory>
+    ensures { IfOk result (λ list. list ≡ edge_deeds names.now graph.now edge) }
+{
+    let tables = tables_of(alloc, graph, names)?;
+    edge_deeds(alloc, graph, names, &tables, edge)
+}

@@ -1,28 +1,51 @@
 //! What the analyses speak of: pointing expressions, sites, puts, what the edges of a graph do to pointers, facts and marks.
 #![tactic(auto)]
 
+mod aliases;
+mod before;
+mod changes;
 mod deed;
 mod deeds;
 mod edges;
+mod entry;
 mod fact;
+mod fact_numbers;
 mod facts;
 mod graph_deeds;
+mod known;
 mod looks;
 mod marks;
 mod names;
+mod naming;
 mod numbering;
 mod pointers;
+mod posts;
+mod puts;
+mod redraw;
 mod rows;
+mod sites;
+mod splits;
 mod tables;
 mod triples;
+mod turns;
+mod writes;
 
+pub use aliases::alias;
+pub use before::{Before, Given};
+pub use changes::Change;
 pub use deed::{Deed, Looked, Saying, Source};
 pub use edges::action_deeds;
+pub use entry::{Entry, Notes};
 pub use fact::Fact;
 pub use facts::{Facts, May, Path};
-pub use graph_deeds::all_deeds;
-pub use marks::{Alias, Mark, Step};
+pub use graph_deeds::{all_deeds, deeds_of};
+pub use known::Known;
+pub use marks::{Alias, Mark, Step, Verdict};
 pub use names::{Names, Read};
+pub use naming::number;
 pub use numbering::{pointer_fields, pointer_vars, pointing_fields, sites_of};
-pub use pointers::Pointer;
+pub use pointers::{Pointer, field_place, place_of};
+pub use posts::{born, deeds_post, post};
+pub use rows::{row, rows_of};
+pub use splits::split;
 pub use triples::{Derived, Triple};

@@ -65,7 +65,8 @@ fn defined_fields(alloc: Global, structs: &Seq<StructDef>, of: usize) -> Result<
     }
 }
 
-fn type_at(decls: &Seq<VarDef>, variable: usize) -> Option<Ty>
+/// The type of a variable.
+pub fn type_at(decls: &Seq<VarDef>, variable: usize) -> Option<Ty>
     ensures { result ≡ option_map (λ (v : VarDef). v.ty) (slice_get decls.now variable) }
 {
     match decls.get(variable) {
@@ -74,7 +75,7 @@ fn type_at(decls: &Seq<VarDef>, variable: usize) -> Option<Ty>
     }
 }
 
-fn var_fields(
+pub fn var_fields(
     alloc: Global,
     structs: &Seq<StructDef>,
     decls: &Seq<VarDef>,
@@ -90,7 +91,11 @@ fn var_fields(
     }
 }
 
-fn add_pairs(list: &mut Seq<(usize, usize)>, place: usize, fields: &[usize]) -> Result<(), Memory>
+pub fn add_pairs(
+    list: &mut Seq<(usize, usize)>,
+    place: usize,
+    fields: &[usize],
+) -> Result<(), Memory>
     ensures { OnOk result (list.new ≡ list.old ++ map (λ f. (place, f)) fields.now) }
 {
     for field in fields {

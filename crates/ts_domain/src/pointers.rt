@@ -25,12 +25,13 @@ pub fn is_pointer(ty: Ty) -> bool
 
 /// The place of a variable among the pointer variables.
 pub fn place_of(names: &Names, variable: usize) -> Option<usize>
-    ensures { result ≡ place_of names.now variable }
+    ensures first { result ≡ place_of names.now variable }
+    ensures below { IfSome result (λ at. at < length names.now.vars) }
 {
     names.vars.as_slice().iter().position(|x| *x == variable)
 }
 
-fn type_of(names: &Names, variable: usize) -> Option<Ty>
+pub fn type_of(names: &Names, variable: usize) -> Option<Ty>
     ensures { result ≡ type_of names.now variable }
 {
     match names.decls.get(variable) {
@@ -67,7 +68,8 @@ pub fn var_pointer(names: &Names, variable: usize) -> Option<Pointer>
     }
 }
 
-fn field_place(fields: &[(usize, usize)], place: usize, field: usize) -> Option<usize>
+/// The place of a field of a variable among the fields.
+pub fn field_place(fields: &[(usize, usize)], place: usize, field: usize) -> Option<usize>
     ensures first { result ≡ field_place fields.now place field }
     ensures below { IfSome result (λ at. at < length fields.now) }
 {

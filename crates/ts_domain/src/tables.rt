@@ -92,7 +92,8 @@ fn enters(way: Way) -> bool
     }
 }
 
-fn ctx_at(graph: &Graph, node: usize) -> Option<usize>
+/// The context of a node.
+pub fn ctx_at(graph: &Graph, node: usize) -> Option<usize>
     ensures { result ≡ ctx_at graph.now node }
 {
     match graph.nodes.get(node) {
@@ -111,7 +112,12 @@ fn entered(graph: &Graph, edge: Edge) -> Option<usize>
     }
 }
 
-fn entered_keys(alloc: Global, graph: &Graph, edges: &[Edge]) -> Result<Seq<Option<usize>>, Memory>
+/// The context that each edge leads into, if it is that of a call.
+pub fn entered_keys(
+    alloc: Global,
+    graph: &Graph,
+    edges: &[Edge],
+) -> Result<Seq<Option<usize>>, Memory>
     ensures { IfOk result (λ keys. keys ≡ map (entered graph.now) edges.now) }
 {
     let mut keys = Seq::new(alloc);
