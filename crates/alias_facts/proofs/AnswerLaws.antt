@@ -1,21 +1,24 @@
--- The table before any write is sound, and the answer has what its table has.
-use Rattle.std.proofs.Common.{◌≡◌, ℕ, zero, suc, ◌+◌, ◌<◌, ◌≤◌, ◌==◌, ◌&&◌, ◌||◌, Bool, true, false, List, [], ◌∷◌, ◌++◌, length, take, drop, replicate, slice_get, Option, Some, None, refl, ap, sym, ◌∙◌, arith}
-use Rattle.std.specs.List.{list_any}
+-- The table before any write is sound, and the answer has what its table has, in order.
+use Rattle.std.proofs.Common.{◌≡◌, ◌≢◌, ℕ, zero, suc, ◌+◌, ◌<◌, ◌≤◌, ◌==◌, ◌&&◌, ◌||◌, ◌⊎◌, inl, inr, Bool, true, false, List, [], ◌∷◌, ◌++◌, append_assoc, length, take, drop, get_or, replicate, slice_get, Option, Some, None, refl, ap, sym, subst, ◌∙◌, arith}
+use Rattle.std.specs.List.{All, AllPairs, list_any}
 use Rattle.std.proofs.lemmas.Bool.{false≢true, eq-eqb, ne_eqb}
 use Rattle.std.proofs.lemmas.List.{length-replicate}
+use Rattle.std.proofs.lemmas.List.Elements.{All-append, All-push}
 use Rattle.std.proofs.lemmas.List.Folds.{list_any-append}
+use Rattle.std.proofs.lemmas.List.Kept.{AllPairs-cons}
+use Rattle.std.proofs.lemmas.Option.{slice_get-get_or}
 use Rattle.c_tree.specs.Typing.{has}
 use Rattle.c_graph.specs.declared.graph.Graph.{Graph}
 use Rattle.mf_set.specs.Numbers.{Numbers, has as has_number}
 use Rattle.ts_domain.specs.declared.names.Names.{Names}
-use Rattle.ts_domain.specs.May.{IsMay, flows_into, flows_to}
+use Rattle.ts_domain.specs.May.{IsMay, flows_into, flows_to, precedes}
 use Rattle.ts_domain.proofs.Arguments.{drop_some}
 use Rattle.alias_facts.specs.declared.bounds.Bounds.{Bounds}
 use Rattle.alias_facts.specs.declared.table.Table.{Table}
 use Rattle.alias_facts.specs.Answer.{answer, empty_row, empty_set, empty_table, noted, noted_items, noted_row, noted_rows}
 use Rattle.alias_facts.specs.Flow.{IsClosed, IsSound, cell_in, cell_items, items_of, var_items}
-use Rattle.alias_facts.specs.Growth.{IsSized}
-use Rattle.alias_facts.specs.Writes.{Widened, all_writes}
+use Rattle.alias_facts.specs.Growth.{AreRooms, IsSized}
+use Rattle.alias_facts.specs.Writes.{IsBound, all_writes}
 use Rattle.alias_facts.specs.Writing.{Ended, Settles}
 use Rattle.alias_facts.proofs.FlowLaws.{complete}
 use Rattle.alias_facts.proofs.WriteLaws.{closed_by}
@@ -157,23 +160,110 @@ length_take zero xs h = refl
 length_take (suc n) [] h = absurd (omega arith)
 length_take (suc n) (x ∷ xs) h = ap suc (length_take n xs (omega arith))
 
--- the answer of a sound and closed table is exact
-pub answer_exact : (n : Names) (g : Graph) (m : Table) → length n.vars ≤ length m.vars → IsSound n g m → IsClosed n g m → IsMay n g (answer (length n.vars) m)
-answer_exact n g m within sound closed = record {
-  counted = length_take (length n.vars) m.vars within;
-  variables = λ k s below. (λ h. sound.vars k s (sym (answer_vars (length n.vars) m k s below) ∙ h), λ flow. answer_vars (length n.vars) m k s below ∙ complete n g m closed flow);
-  fields = λ t f s. (λ h. sound.cells t f s (sym (answer_fields (length n.vars) m t f s) ∙ h), λ flow. answer_fields (length n.vars) m t f s ∙ complete n g m closed flow);
+-- rooms
+
+var_rooms : (n room : ℕ) (vs : List Numbers) → n ≤ length vs → AreRooms room vs → All (λ (x : Numbers). x.room ≡ room) (take n vs)
+var_rooms n room vs long rooms k d within =
+    let below : k < n = omega (arith, within, length_take n vs long) in
+    rooms k (get_or (take n vs) k d) (sym (take_at n k vs below) ∙ slice_get-get_or (take n vs) k d within)
+
+-- an entry of the answer: a set with that room, which isn't empty
+abbrev IsEntry : ℕ → ℕ × ℕ × Numbers → Type 0
+IsEntry room x = (x.2.room ≡ room) × (x.2.items ≢ [])
+
+noted_entry : (room t f : ℕ) (x : Numbers) (items : List ℕ) → x.items ≡ items → x.room ≡ room → All (IsEntry room) (noted_items t f x items)
+noted_entry room t f x [] e is = λ k d within. absurd (omega (arith, within))
+noted_entry room t f x (s ∷ ss) e is = All-push (IsEntry room) [] (t, f, x) (λ k d within. absurd (omega (arith, within))) (is, λ none. let never : [] ≡ s ∷ ss = sym none ∙ e in absurd cc)
+
+row_entries : (room t f : ℕ) (row : List Numbers) → AreRooms room row → All (IsEntry room) (noted_row t f row)
+row_entries room t f [] rooms = λ k d within. absurd (omega (arith, within))
+row_entries room t f (x ∷ row) rooms = All-append (IsEntry room) (noted t f x) (noted_row t (f + 1) row) (noted_entry room t f x x.items refl (rooms 0 x refl)) (row_entries room t (f + 1) row (λ i. rooms (suc i)))
+
+rows_entries : (room t : ℕ) (rows : List (List Numbers)) → ((u : ℕ) (row : List Numbers) → slice_get rows u ≡ Some row → AreRooms room row) → All (IsEntry room) (noted_rows t rows)
+rows_entries room t [] rooms = λ k d within. absurd (omega (arith, within))
+rows_entries room t (row ∷ rows) rooms = All-append (IsEntry room) (noted_row t 0 row) (noted_rows (t + 1) rows) (row_entries room t 0 row (rooms 0 row refl)) (rows_entries room (t + 1) rows (λ u. rooms (suc u)))
+
+-- order
+
+abbrev Entry : Type 0
+Entry = ℕ × ℕ × Numbers
+
+-- an entry stands at a place or behind it
+abbrev is_from : ℕ → ℕ → Entry → Type 0
+is_from t f x = (t < x.0) ⊎ ((t ≡ x.0) × (f ≤ x.1))
+
+-- entries in order, all of them from a place on
+record Ordered (t f : ℕ) (xs : List Entry) : Type 0 where
+  pairs : AllPairs precedes xs
+  from : All (is_from t f) xs
+
+ordered_none : (t f : ℕ) → Ordered t f []
+ordered_none t f = record { pairs = λ i j d below within. absurd (omega (arith, within)); from = λ k d within. absurd (omega (arith, within)) }
+
+all_map : (P Q : Entry → Type 0) (xs : List Entry) → ((x : Entry) → P x → Q x) → All P xs → All Q xs
+all_map P Q xs f all k d within = f (get_or xs k d) (all k d within)
+
+from_next : (t f : ℕ) (x : Entry) → is_from t (f + 1) x → is_from t f x
+from_next t f x (inl h) = inl h
+from_next t f x (inr h) = let behind = h.1 in inr (h.0, omega (arith, behind))
+
+from_row : (t f : ℕ) (x : Entry) → is_from (t + 1) 0 x → is_from t f x
+from_row t f x (inl h) = inl (omega (arith, h))
+from_row t f x (inr h) = let at = h.0 in inl (omega (arith, at))
+
+precedes_next : (t f : ℕ) (y : Numbers) (x : Entry) → is_from t (f + 1) x → precedes (t, f, y) x
+precedes_next t f y x (inl h) = inl h
+precedes_next t f y x (inr h) = let behind = h.1 in inr (h.0, omega (arith, behind))
+
+from_here : (t f : ℕ) (y : Numbers) → is_from t f (t, f, y)
+from_here t f y = inr (refl, omega arith)
+
+all_cons : (P : Entry → Type 0) (x : Entry) (xs : List Entry) → P x → All P xs → All P (x ∷ xs)
+all_cons P x xs here all = All-append P (x ∷ []) xs (All-push P [] x (λ k d within. absurd (omega (arith, within))) here) all
+
+-- one entry more before those behind it
+noted_ordered : (t f : ℕ) (y : Numbers) (items : List ℕ) (xs : List Entry) → Ordered t (f + 1) xs → Ordered t f (noted_items t f y items ++ xs)
+noted_ordered t f y [] xs is = record { pairs = is.pairs; from = all_map (is_from t (f + 1)) (is_from t f) xs (from_next t f) is.from }
+noted_ordered t f y (s ∷ ss) xs is = record {
+  pairs = AllPairs-cons precedes (t, f, y) xs (all_map (is_from t (f + 1)) (precedes (t, f, y)) xs (precedes_next t f y) is.from) is.pairs;
+  from = all_cons (is_from t f) (t, f, y) xs (from_here t f y) (all_map (is_from t (f + 1)) (is_from t f) xs (from_next t f) is.from);
 }
 
--- from the empty table
-pub ended : (n : Names) (g : Graph) (ds : List Deed) (least b : Bounds) (m : Table) → least.vars ≡ length n.vars → Widened least ds b → Settles n g ds (empty_table b) m → Ended n g ds m
-ended n g ds least b m vars wide settles =
-    let count : length m.vars ≡ b.vars = settles.sized.vars ∙ ap (λ (c : Bounds). c.vars) settles.bounds in
+row_ordered : (t f : ℕ) (row : List Numbers) (xs : List Entry) → Ordered (t + 1) 0 xs → Ordered t f (noted_row t f row ++ xs)
+row_ordered t f [] xs is = record { pairs = is.pairs; from = all_map (is_from (t + 1) 0) (is_from t f) xs (from_row t f) is.from }
+row_ordered t f (y ∷ row) xs is =
+    subst (Ordered t f) (sym (append_assoc (noted t f y) (noted_row t (f + 1) row) xs)) (noted_ordered t f y y.items (noted_row t (f + 1) row ++ xs) (row_ordered t (f + 1) row xs is))
+
+rows_ordered : (t : ℕ) (rows : List (List Numbers)) → Ordered t 0 (noted_rows t rows)
+rows_ordered t [] = ordered_none t 0
+rows_ordered t (row ∷ rows) = row_ordered t 0 row (noted_rows (t + 1) rows) (rows_ordered (t + 1) rows)
+
+-- the answer of a sound and closed table is exact
+pub answer_exact : (n : Names) (g : Graph) (m : Table) → length m.vars ≡ length n.vars → IsSized m → m.bounds.sites ≡ length n.sites → IsSound n g m → IsClosed n g m → IsMay n g (answer (length n.vars) m)
+answer_exact n g m vars sized sites sound closed =
+    let within : length n.vars ≤ length m.vars = omega (arith, vars) in
+    let rooms : AreRooms (length n.sites) m.vars = subst (λ room. AreRooms room m.vars) sites sized.var_rooms in
+    let entries : All (IsEntry (length n.sites)) (noted_rows 0 m.cells) = subst (λ room. All (IsEntry room) (noted_rows 0 m.cells)) sites (rows_entries m.bounds.sites 0 m.cells sized.cell_rooms) in
+    let ordered = rows_ordered 0 m.cells in
     record {
-      vars = omega (arith, vars, count, wide.wide.vars);
-      sound = settles.sound (empty_sound n g b);
-      closed = settles.closed;
+      counted = length_take (length n.vars) m.vars within;
+      variables = λ k s below. (λ h. sound.vars k s (sym (answer_vars (length n.vars) m k s below) ∙ h), λ flow. answer_vars (length n.vars) m k s below ∙ complete n g m closed flow);
+      fields = λ t f s. (λ h. sound.cells t f s (sym (answer_fields (length n.vars) m t f s) ∙ h), λ flow. answer_fields (length n.vars) m t f s ∙ complete n g m closed flow);
+      var_rooms = var_rooms (length n.vars) (length n.sites) m.vars within rooms;
+      field_rooms = λ k d below. (entries k d below).0;
+      some = λ k d below. (entries k d below).1;
+      ascending = ordered.pairs;
     }
 
+-- from the empty table
+pub ended : (n : Names) (g : Graph) (ds : List Deed) (b : Bounds) (m : Table) → IsBound n ds b → Settles n g ds (empty_table b) m → Ended n g ds m
+ended n g ds b m bound settles = record {
+  vars = settles.sized.vars ∙ ap (λ (c : Bounds). c.vars) settles.bounds ∙ bound.vars;
+  sized = settles.sized;
+  sites = ap (λ (c : Bounds). c.sites) settles.bounds ∙ bound.sites;
+  sound = settles.sound (empty_sound n g b);
+  closed = settles.closed;
+}
+
 pub ended_exact : (n : Names) (g : Graph) (m : Table) → Ended n g (all_writes n g) m → IsMay n g (answer (length n.vars) m)
-ended_exact n g m is = answer_exact n g m is.vars is.sound (closed_by n g m is.closed)
+ended_exact n g m is = answer_exact n g m is.vars is.sized is.sites is.sound (closed_by n g m is.closed)

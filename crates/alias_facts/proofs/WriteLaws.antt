@@ -1,5 +1,5 @@
 -- The writes of a graph are done by its edges, and a table to which none of them adds anything is closed.
-use Rattle.std.proofs.Common.{◌≡◌, ℕ, ◌+◌, ◌<◌, ◌==◌, ◌&&◌, ◌||◌, Bool, true, false, List, [], ◌∷◌, length, map, take, get_or, refl, sym, subst, ◌∙◌, arith}
+use Rattle.std.proofs.Common.{◌≡◌, ℕ, ◌+◌, ◌<◌, ◌≤◌, ◌==◌, ◌&&◌, ◌||◌, Bool, true, false, List, [], ◌∷◌, length, map, take, get_or, refl, sym, subst, ◌∙◌, arith}
 use Rattle.std.specs.List.{All}
 use Rattle.std.proofs.lemmas.Bool.{eq-eqb, and_from}
 use Rattle.std.proofs.lemmas.List.{take_more}
@@ -10,17 +10,13 @@ use Rattle.c_graph.specs.declared.graph.Graph.{Graph}
 use Rattle.mf_set.specs.Numbers.{has as has_number}
 use Rattle.ts_domain.specs.declared.deed.Deed.{Deed}
 use Rattle.ts_domain.specs.declared.deed.Deed.TheVariants.{Reads, Follows, Says, Sets, SetsField}
-use Rattle.ts_domain.specs.declared.deed.Source.{Source}
-use Rattle.ts_domain.specs.declared.deed.Source.TheVariants.{Content, Null, New, Undef}
 use Rattle.ts_domain.specs.declared.names.Names.{Names}
 use Rattle.ts_domain.specs.Deeds.{edge_deeds}
 use Rattle.ts_domain.specs.May.{IsDone}
-use Rattle.alias_facts.specs.declared.bounds.Bounds.{Bounds}
 use Rattle.alias_facts.specs.declared.table.Table.{Table}
 use Rattle.alias_facts.specs.Flow.{IsClosed, cell_items, in_source, var_items, writes_cell}
-use Rattle.alias_facts.specs.Growth.{SourceFits}
-use Rattle.alias_facts.specs.Writes.{all_writes, Widens, Widened, written, writes_in}
-use Rattle.alias_facts.specs.Writing.{DeedFits, IsApplied}
+use Rattle.alias_facts.specs.Writes.{FieldFits, IsBound, all_writes, written, writes_in}
+use Rattle.alias_facts.specs.Writing.{DeedFits, IsApplied, IsInRange}
 
 -- lists
 
@@ -84,24 +80,33 @@ closed_by n g m all = record {
 
 -- bounds
 
-pub widens_on : (a b c : Bounds) → Widens a b → Widens b c → Widens a c
-widens_on a b c p q = record { vars = omega (arith, p.vars, q.vars); sites = omega (arith, p.sites, q.sites); fields = omega (arith, p.fields, q.fields) }
+field_fits_on : (a b : ℕ) (d : Deed) → a ≤ b → FieldFits a d → FieldFits b d
+field_fits_on a b (Reads r noted) wide fits = tt
+field_fits_on a b (Follows k) wide fits = tt
+field_fits_on a b (Says s) wide fits = tt
+field_fits_on a b (Sets k v) wide fits = tt
+field_fits_on a b (SetsField r c f v) wide fits = omega (arith, wide, fits)
 
-pub source_fits_on : (a b : Bounds) (v : Source) → Widens a b → SourceFits a v → SourceFits b v
-source_fits_on a b (Content l) w fits = tt
-source_fits_on a b Null w fits = tt
-source_fits_on a b (New t) w fits = omega (arith, w.sites, fits)
-source_fits_on a b Undef w fits = tt
+pub fields_more : (ds : List Deed) (i : ℕ) (d : Deed) (a b c : ℕ) → i < length ds → a ≤ c → b ≤ c → All (FieldFits a) (take i ds) → FieldFits b (get_or ds i d) → All (FieldFits c) (take (i + 1) ds)
+fields_more ds i d a b c within low high fit here =
+    subst (All (FieldFits c)) (sym (take_more ds i d within))
+    (All-push (FieldFits c) (take i ds) (get_or ds i d) (λ k e below. field_fits_on a c (get_or (take i ds) k e) low (fit k e below)) (field_fits_on b c (get_or ds i d) high here))
 
-pub deed_fits_on : (a b : Bounds) (d : Deed) → Widens a b → DeedFits a d → DeedFits b d
-deed_fits_on a b (Reads r noted) w fits = tt
-deed_fits_on a b (Follows k) w fits = tt
-deed_fits_on a b (Says s) w fits = tt
-deed_fits_on a b (Sets k v) w fits = (omega (arith, w.vars, fits.0), source_fits_on a b v w fits.1)
-deed_fits_on a b (SetsField r c f v) w fits = (omega (arith, w.fields, fits.0), source_fits_on a b v w fits.1)
+deed_fits : (n : Names) (fields : ℕ) (d : Deed) → IsInRange n d → FieldFits fields d → DeedFits (record { vars = length n.vars; sites = length n.sites; fields = fields }) d
+deed_fits n fields (Reads r noted) is fits = tt
+deed_fits n fields (Follows k) is fits = tt
+deed_fits n fields (Says s) is fits = tt
+deed_fits n fields (Sets k v) is fits = is
+deed_fits n fields (SetsField r c f v) is fits = (fits, is.1)
 
-pub widened_more : (a b c : Bounds) (ds : List Deed) (i : ℕ) (d : Deed) → i < length ds → Widened a (take i ds) b → Widens b c × DeedFits c (get_or ds i d) → Widened a (take (i + 1) ds) c
-widened_more a b c ds i d within p q = record {
-  wide = widens_on a b c p.wide q.0;
-  fit = subst (All (DeedFits c)) (sym (take_more ds i d within)) (All-push (DeedFits c) (take i ds) (get_or ds i d) (λ k e below. deed_fits_on b c (get_or (take i ds) k e) q.0 (p.fit k e below)) q.1);
+bound_for : (n : Names) (ds : List Deed) (fields : ℕ) → All (IsInRange n) ds → All (FieldFits fields) ds → IsBound n ds (record { vars = length n.vars; sites = length n.sites; fields = fields })
+bound_for n ds fields is fits = record {
+  vars = refl;
+  sites = refl;
+  fit = λ k d within. deed_fits n fields (get_or ds k d) (is k d within) (fits k d within);
 }
+
+pub bound_by : (n : Names) (ds : List Deed) (vars sites fields : ℕ) → vars ≡ length n.vars → sites ≡ length n.sites → All (IsInRange n) ds → All (FieldFits fields) ds → IsBound n ds (record { vars = vars; sites = sites; fields = fields })
+bound_by n ds vars sites fields v s is fits =
+    subst (λ count. IsBound n ds (record { vars = count; sites = sites; fields = fields })) (sym v)
+    (subst (λ count. IsBound n ds (record { vars = length n.vars; sites = count; fields = fields })) (sym s) (bound_for n ds fields is fits))

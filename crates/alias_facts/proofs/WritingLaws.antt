@@ -1,9 +1,10 @@
 -- What the writes of a round do to a table, put together from their parts.
-use Rattle.std.proofs.Common.{◌≡◌, ℕ, ◌+◌, ◌<◌, ◌==◌, ◌&&◌, ◌||◌, ⊎_elim, Bool, true, false, nat_lt, List, [], length, take, get_or, refl, ap, sym, subst, ◌∙◌, arith}
+use Rattle.std.proofs.Common.{◌≡◌, ℕ, ◌+◌, ◌<◌, ◌≤◌, ◌==◌, ◌&&◌, ◌||◌, ⊎_elim, Bool, true, false, List, [], ◌∷◌, length, take, get_or, refl, ap, sym, subst, ◌∙◌, arith}
 use Rattle.std.specs.List.{All}
 use Rattle.std.proofs.lemmas.List.{take_more}
 use Rattle.std.proofs.lemmas.List.Elements.{All-push}
-use Rattle.std.proofs.lemmas.Bool.{true≢false, false≢true, ne_eqb, lt-ltb, cases_eq, and_parts}
+use Rattle.std.proofs.lemmas.List.Folds.{list_any-append}
+use Rattle.std.proofs.lemmas.Bool.{true≢false, false≢true, eq-eqb, ne_eqb, cases_eq}
 use Rattle.c_graph.specs.declared.graph.Graph.{Graph}
 use Rattle.mf_set.specs.Numbers.{Numbers, has as has_number}
 use Rattle.ts_domain.specs.declared.deed.Deed.{Deed}
@@ -15,7 +16,7 @@ use Rattle.ts_domain.specs.May.{IsDone}
 use Rattle.alias_facts.specs.declared.table.Table.{Table}
 use Rattle.alias_facts.specs.Flow.{IsSound, cell_items, in_found, in_source, is_of_struct, var_items, writes_cell}
 use Rattle.alias_facts.specs.Growth.{CellJoins, Grows, IsFound, IsSized, VarJoins}
-use Rattle.alias_facts.specs.Writing.{Applies, IsApplied, Rounds, Settles, Settling, TargetAt, TargetsBelow, is_target}
+use Rattle.alias_facts.specs.Writing.{Applies, IsApplied, Rounds, Settles, Settling, TargetsSet, is_target}
 use Rattle.alias_facts.proofs.FlowLaws.{field_set_sound, set_sound, site_within, struct_from}
 use Rattle.alias_facts.proofs.GrowthLaws.{grows_on}
 
@@ -38,10 +39,6 @@ or_none : (a b : Bool) → b ≡ false → a ≡ (a || b)
 or_none true b h = refl
 or_none false b h = sym h
 
-and_none : (a b c : Bool) → b ≡ false → ((a && b) && c) ≡ false
-and_none true b c h = ap (λ x. x && c) h
-and_none false b c h = refl
-
 and_false : (a : Bool) → (a && false) ≡ false
 and_false true = refl
 and_false false = refl
@@ -50,85 +47,84 @@ and_true : (a : Bool) → a ≡ (a && true)
 and_true true = refl
 and_true false = refl
 
-pub target_yes : (n : Names) (g : Graph) (site : ℕ) (base : List ℕ) (c f : ℕ) (more : List ℕ) (changed : Bool) (old new : Table) → (has_number base site && is_of_struct n g c site) ≡ true → CellJoins site f more changed old new → TargetAt n g site base c f more changed old new
-target_yes n g site base c f more changed old new is joins = record {
+-- no targets
+pub no_targets : (n : Names) (g : Graph) (sites : List ℕ) (c f : ℕ) (more : List ℕ) (m : Table) → IsSized m → ((t d : ℕ) → is_target n g sites c f t d ≡ false) → TargetsSet n g sites c f more false m m
+no_targets n g sites c f more m sized none = record {
+  grows = grows_none m sized;
+  vars = refl;
+  cells = λ t d s. or_none (has_number (cell_items m t d) s) (is_target n g sites c f t d && has_number more s) (ap (λ b. b && has_number more s) (none t d));
+}
+
+pub targets_none : (n : Names) (g : Graph) (c f : ℕ) (more : List ℕ) (m : Table) → IsSized m → TargetsSet n g [] c f more false m m
+targets_none n g c f more m sized = no_targets n g [] c f more m sized (λ t d. and_false (d == f))
+
+-- one site
+pub target_yes : (n : Names) (g : Graph) (site c f : ℕ) (more : List ℕ) (changed : Bool) (old new : Table) → is_of_struct n g c site ≡ true → CellJoins site f more changed old new → TargetsSet n g (site ∷ []) c f more changed old new
+target_yes n g site c f more changed old new is joins = record {
   grows = joins.grows;
   vars = joins.vars;
   cells = λ t d s. joins.cells t d s ∙ ap (λ b. has_number (cell_items old t d) s || (b && has_number more s)) (same t d);
 }
   where
-    same : (t d : ℕ) → (t == site && d == f) ≡ (t == site && is_target n g base c f t d)
+    same : (t d : ℕ) → (t == site && d == f) ≡ is_target n g (site ∷ []) c f t d
     same t d =
         ⊎_elim
-        (λ e. ap (λ b. t == site && b) (and_true (d == f) ∙ ap (λ b. d == f && b) (sym is) ∙ ap (λ i. d == f && (has_number base i && is_of_struct n g c i)) (sym e)))
-        (λ other. ap (λ b. b && d == f) (ne_eqb t site other) ∙ ap (λ b. b && is_target n g base c f t d) (sym (ne_eqb t site other)))
+        (λ e.
+        ap (λ b. b && d == f) (eq-eqb t site e) ∙ and_true (d == f) ∙ ap (λ b. d == f && b) (sym is)
+        ∙ ap (λ i. d == f && is_of_struct n g c i) (sym e)
+        ∙ ap (λ b. d == f && ((b || false) && is_of_struct n g c t)) (sym (eq-eqb site t (sym e))))
+        (λ other.
+        ap (λ b. b && d == f) (ne_eqb t site other) ∙ sym (and_false (d == f))
+        ∙ ap (λ b. d == f && ((b || false) && is_of_struct n g c t)) (sym (ne_eqb site t (λ e. other (sym e)))))
         (cases_eq t site)
 
-pub target_no : (n : Names) (g : Graph) (site : ℕ) (base : List ℕ) (c f : ℕ) (more : List ℕ) (old : Table) → IsSized old → (has_number base site && is_of_struct n g c site) ≡ false → TargetAt n g site base c f more false old old
-target_no n g site base c f more old sized is = record {
-  grows = grows_none old sized;
-  vars = refl;
-  cells = λ t d s. or_none (has_number (cell_items old t d) s) ((t == site && is_target n g base c f t d) && has_number more s) (ap (λ b. b && has_number more s) (none t d));
-}
+pub target_no : (n : Names) (g : Graph) (site c f : ℕ) (more : List ℕ) (old : Table) → IsSized old → is_of_struct n g c site ≡ false → TargetsSet n g (site ∷ []) c f more false old old
+target_no n g site c f more old sized is = no_targets n g (site ∷ []) c f more old sized none
   where
-    none : (t d : ℕ) → (t == site && is_target n g base c f t d) ≡ false
+    none : (t d : ℕ) → is_target n g (site ∷ []) c f t d ≡ false
     none t d =
         ⊎_elim
-        (λ e. ap (λ i. t == site && (d == f && (has_number base i && is_of_struct n g c i))) e ∙ ap (λ b. t == site && (d == f && b)) is ∙ ap (λ b. t == site && b) (and_false (d == f)) ∙ and_false (t == site))
-        (λ other. ap (λ b. b && is_target n g base c f t d) (ne_eqb t site other))
+        (λ e. ap (λ i. d == f && ((site == t || false) && is_of_struct n g c i)) e ∙ ap (λ b. d == f && ((site == t || false) && b)) is ∙ ap (λ b. d == f && b) (and_false (site == t || false)) ∙ and_false (d == f))
+        (λ other. ap (λ b. d == f && ((b || false) && is_of_struct n g c t)) (ne_eqb site t (λ e. other (sym e))) ∙ and_false (d == f))
         (cases_eq t site)
 
-below_next : (t i : ℕ) → nat_lt t (i + 1) ≡ (nat_lt t i || t == i)
-below_next t i = grind arith
+pub target_within : (n : Names) (g : Graph) (c site count : ℕ) → length n.sites ≤ count → is_of_struct n g c site ≡ true → site < count
+target_within n g c site count wide is = let within = site_within n g c site (struct_from n g c site is) in omega (arith, wide, within)
 
-both_adds : (old a b w m : Bool) → ((old || ((a && w) && m)) || ((b && w) && m)) ≡ (old || (((a || b) && w) && m))
-both_adds true a b w m = refl
-both_adds false true true true true = refl
-both_adds false true true true false = refl
-both_adds false true true false m = refl
-both_adds false true false true true = refl
-both_adds false true false true false = refl
-both_adds false true false false m = refl
-both_adds false false b w m = refl
+both_add : (old e a b w m : Bool) → ((old || ((e && (a && w)) && m)) || ((e && (b && w)) && m)) ≡ (old || ((e && ((a || b) && w)) && m))
+both_add true e a b w m = refl
+both_add false false a b w m = refl
+both_add false true true b true true = refl
+both_add false true true true true false = refl
+both_add false true true false true false = refl
+both_add false true true true false m = refl
+both_add false true true false false m = refl
+both_add false true false b w m = refl
 
-pub targets_more : (n : Names) (g : Graph) (i : ℕ) (base : List ℕ) (c f : ℕ) (more : List ℕ) (a b : Bool) (x y z : Table) → TargetsBelow n g i base c f more a x y → TargetAt n g i base c f more b y z → TargetsBelow n g (i + 1) base c f more (a || b) x z
-targets_more n g i base c f more a b x y z p q = record {
-  grows = grows_on a b x y z p.grows q.grows;
-  vars = q.vars ∙ p.vars;
-  cells = λ t d s.
-      q.cells t d s
-      ∙ ap (λ h. h || ((t == i && is_target n g base c f t d) && has_number more s)) (p.cells t d s)
-      ∙ both_adds (has_number (cell_items x t d) s) (nat_lt t i) (t == i) (is_target n g base c f t d) (has_number more s)
-      ∙ ap (λ h. has_number (cell_items x t d) s || ((h && is_target n g base c f t d) && has_number more s)) (sym (below_next t i));
-}
-
-pub targets_none : (n : Names) (g : Graph) (base : List ℕ) (c f : ℕ) (more : List ℕ) (m : Table) → IsSized m → TargetsBelow n g 0 base c f more false m m
-targets_none n g base c f more m sized = record {
-  grows = grows_none m sized;
-  vars = refl;
-  cells = λ t d s. or_none (has_number (cell_items m t d) s) ((nat_lt t 0 && is_target n g base c f t d) && has_number more s) (ap (λ b. (b && is_target n g base c f t d) && has_number more s) (past t));
-}
-  where
-    past : (t : ℕ) → nat_lt t 0 ≡ false
-    past t = grind arith
-
-below_all : (n : Names) (g : Graph) (base : List ℕ) (c f t d : ℕ) (b : Bool) → is_target n g base c f t d ≡ b → (nat_lt t (length n.sites) && is_target n g base c f t d) ≡ is_target n g base c f t d
-below_all n g base c f t d true e =
-    let parts = and_parts (d == f) (has_number base t && is_of_struct n g c t) e in
-    let there = and_parts (has_number base t) (is_of_struct n g c t) parts.1 in
-    ap (λ b. b && is_target n g base c f t d) (lt-ltb t (length n.sites) (site_within n g c t (struct_from n g c t there.1)))
-below_all n g base c f t d false e = ap (λ b. nat_lt t (length n.sites) && b) e ∙ and_false (nat_lt t (length n.sites)) ∙ sym e
+-- one site more
+pub targets_more : (n : Names) (g : Graph) (ts : List ℕ) (i c f : ℕ) (more : List ℕ) (a b : Bool) (x y z : Table) → i < length ts → TargetsSet n g (take i ts) c f more a x y → TargetsSet n g (get_or ts i 0 ∷ []) c f more b y z → TargetsSet n g (take (i + 1) ts) c f more (a || b) x z
+targets_more n g ts i c f more a b x y z within p q =
+    let u = get_or ts i 0 in
+    let both : (t : ℕ) → has_number (take (i + 1) ts) t ≡ (has_number (take i ts) t || has_number (u ∷ []) t) = λ t. ap (λ (xs : List ℕ). has_number xs t) (take_more ts i 0 within) ∙ list_any-append (λ m. m == t) (take i ts) (u ∷ []) in
+    record {
+      grows = grows_on a b x y z p.grows q.grows;
+      vars = q.vars ∙ p.vars;
+      cells = λ t d s.
+          q.cells t d s
+          ∙ ap (λ h. h || (is_target n g (u ∷ []) c f t d && has_number more s)) (p.cells t d s)
+          ∙ both_add (has_number (cell_items x t d) s) (d == f) (has_number (take i ts) t) (has_number (u ∷ []) t) (is_of_struct n g c t) (has_number more s)
+          ∙ ap (λ h. has_number (cell_items x t d) s || ((d == f && (h && is_of_struct n g c t)) && has_number more s)) (sym (both t));
+    }
 
 -- a write to a field
 pub field_applies : (n : Names) (g : Graph) (r : Read) (c f : ℕ) (v : Source) (changed : Bool) (x y : Numbers) (old new : Table) → IsFound old.bounds.sites (in_found n g old r) x → IsFound old.bounds.sites (in_source n g old v) y
-    → TargetsBelow n g (length n.sites) x.items c f y.items changed old new → Applies n g (SetsField r c f v) changed old new
+    → TargetsSet n g x.items c f y.items changed old new → Applies n g (SetsField r c f v) changed old new
 field_applies n g r c f v changed x y old new base found set = record {
   grows = set.grows;
   does = record {
     vars = set.vars;
     cells = λ t d s.
         set.cells t d s
-        ∙ ap (λ b. has_number (cell_items old t d) s || (b && has_number y.items s)) (below_all n g x.items c f t d (is_target n g x.items c f t d) refl)
         ∙ ap (λ b. has_number (cell_items old t d) s || ((d == f && (b && is_of_struct n g c t)) && has_number y.items s)) (base.items t)
         ∙ ap (λ b. has_number (cell_items old t d) s || (writes_cell n g old r c f t d && b)) (found.items s);
   };
@@ -168,8 +164,16 @@ rounds_more n g ds i d a b x y z within is done p q = record {
       (subst (λ (m : Table). All (λ e. IsApplied n g e m m) (take i ds)) (sym same) (p.closed (not_left a b none)));
 }
 
+-- changes
+
 pub settling_none : (n : Names) (g : Graph) (m : Table) → IsSized m → Settling n g m m
 settling_none n g m sized = record { sized = sized; bounds = refl; sound = λ h. h }
+
+pub settling_on : (n : Names) (g : Graph) (x y z : Table) → Settling n g x y → Settling n g y z → Settling n g x z
+settling_on n g x y z p q = record { sized = q.sized; bounds = q.bounds ∙ p.bounds; sound = λ h. q.sound (p.sound h) }
+
+pub applied_settling : (n : Names) (g : Graph) (d : Deed) (b : Bool) (x z : Table) → IsDone n g d → Applies n g d b x z → Settling n g x z
+applied_settling n g d b x z done is = record { sized = is.grows.sized; bounds = is.grows.bounds; sound = λ h. applied_sound n g d x z done h is.does }
 
 pub settling_more : (n : Names) (g : Graph) (ds : List Deed) (b : Bool) (x y z : Table) → Settling n g x y → Rounds n g ds b y z → Settling n g x z
 settling_more n g ds b x y z p q = record { sized = q.grows.sized; bounds = q.grows.bounds ∙ p.bounds; sound = λ h. q.sound (p.sound h) }

@@ -3,7 +3,6 @@ use Rattle.std.specs.Prelude.{◌≡◌, ℕ, ◌+◌, ◌-◌, ◌<◌, ◌==�
 use Rattle.ts_domain.specs.declared.deed.Source.{Source}
 use Rattle.ts_domain.specs.declared.deed.Source.TheVariants.{Content, Null, New, Undef}
 use Rattle.mf_set.specs.Numbers.{Numbers, has as has_number}
-use Rattle.alias_facts.specs.declared.bounds.Bounds.{Bounds}
 use Rattle.alias_facts.specs.declared.table.Table.{Table}
 use Rattle.alias_facts.specs.Flow.{cell_items, items_of, var_items}
 
@@ -70,9 +69,9 @@ pub record Adds (more : List ℕ) (old new : Numbers) : Type 0 where
   pub room : new.room ≡ old.room
   pub items : (s : ℕ) → has_number new.items s ≡ (has_number old.items s || has_number more s)
 
--- a site that is made is within the bounds
-abbrev pub SourceFits : Bounds → Source → Type 0
-SourceFits b (New t) = t < b.sites
-SourceFits b (Content l) = Unit {0}
-SourceFits b Null = Unit {0}
-SourceFits b Undef = Unit {0}
+-- a site that is made is one of so many
+abbrev pub SourceFits : ℕ → Source → Type 0
+SourceFits count (New t) = t < count
+SourceFits count (Content l) = Unit {0}
+SourceFits count Null = Unit {0}
+SourceFits count Undef = Unit {0}

@@ -1,5 +1,5 @@
--- The writes among deeds, and bounds that grow.
-use Rattle.std.specs.Prelude.{ℕ, ◌<◌, ◌≤◌, List, [], ◌∷◌, map}
+-- The writes among deeds, and bounds for them.
+use Rattle.std.specs.Prelude.{◌≡◌, ℕ, ◌<◌, List, [], ◌∷◌, length, map}
 use Rattle.std.specs.List.{All, flat_map}
 use Rattle.c_graph.specs.declared.graph.Graph.{Graph}
 use Rattle.ts_domain.specs.declared.deed.Deed.{Deed}
@@ -27,17 +27,16 @@ writes_of all = flat_map writes_in all
 abbrev pub all_writes : Names → Graph → List Deed
 all_writes n g = writes_of (map (edge_deeds n g) g.edges)
 
--- a bound above a number and not below another bound
-pub record IsAbove (least number : ℕ) (bound : ℕ) : Type 0 where
-  pub above : number < bound
-  pub wide : least ≤ bound
+-- the field that a deed writes is below a bound
+abbrev pub FieldFits : ℕ → Deed → Type 0
+FieldFits bound (Reads r noted) = Unit {0}
+FieldFits bound (Follows k) = Unit {0}
+FieldFits bound (Says s) = Unit {0}
+FieldFits bound (Sets k v) = Unit {0}
+FieldFits bound (SetsField r c f v) = f < bound
 
-pub record Widens (a b : Bounds) : Type 0 where
-  pub vars : a.vars ≤ b.vars
-  pub sites : a.sites ≤ b.sites
-  pub fields : a.fields ≤ b.fields
-
--- bounds for all writes
-pub record Widened (a : Bounds) (ds : List Deed) (b : Bounds) : Type 0 where
-  pub wide : Widens a b
+-- bounds of a table for the names, which all writes are within
+pub record IsBound (n : Names) (ds : List Deed) (b : Bounds) : Type 0 where
+  pub vars : b.vars ≡ length n.vars
+  pub sites : b.sites ≡ length n.sites
   pub fit : All (DeedFits b) ds

@@ -1,11 +1,13 @@
 -- What a write does to a table, and a round over all writes.
-use Rattle.std.specs.Prelude.{◌≡◌, ℕ, ◌<◌, ◌≤◌, ◌==◌, ◌&&◌, ◌||◌, nat_lt, Bool, false, List, length}
+use Rattle.std.specs.Prelude.{◌≡◌, ℕ, ◌<◌, ◌==◌, ◌&&◌, ◌||◌, Bool, true, false, List, length}
 use Rattle.std.specs.List.{All}
+use Rattle.c_tree.specs.Typing.{has}
 use Rattle.c_graph.specs.declared.graph.Graph.{Graph}
 use Rattle.mf_set.specs.Numbers.{has as has_number}
 use Rattle.ts_domain.specs.declared.deed.Deed.{Deed}
 use Rattle.ts_domain.specs.declared.deed.Deed.TheVariants.{Reads, Follows, Says, Sets, SetsField}
 use Rattle.ts_domain.specs.declared.names.Names.{Names}
+use Rattle.ts_domain.specs.Pointers.{field_type, is_pointer}
 use Rattle.alias_facts.specs.declared.bounds.Bounds.{Bounds}
 use Rattle.alias_facts.specs.declared.table.Table.{Table}
 use Rattle.alias_facts.specs.Flow.{IsFieldSetBy, IsSetBy, IsSound, cell_items, is_of_struct}
@@ -16,8 +18,16 @@ abbrev pub DeedFits : Bounds → Deed → Type 0
 DeedFits b (Reads r noted) = Unit {0}
 DeedFits b (Follows k) = Unit {0}
 DeedFits b (Says s) = Unit {0}
-DeedFits b (Sets k v) = (k < b.vars) × SourceFits b v
-DeedFits b (SetsField r c f v) = (f < b.fields) × SourceFits b v
+DeedFits b (Sets k v) = (k < b.vars) × SourceFits b.sites v
+DeedFits b (SetsField r c f v) = (f < b.fields) × SourceFits b.sites v
+
+-- what a deed writes is a pointer variable or a pointer field, and an object that it takes is of one of the sites
+abbrev pub IsInRange : Names → Deed → Type 0
+IsInRange n (Reads r noted) = Unit {0}
+IsInRange n (Follows k) = Unit {0}
+IsInRange n (Says s) = Unit {0}
+IsInRange n (Sets k v) = (k < length n.vars) × SourceFits (length n.sites) v
+IsInRange n (SetsField r c f v) = (has is_pointer (field_type n c f) ≡ true) × SourceFits (length n.sites) v
 
 -- what a deed adds to a table
 abbrev pub IsApplied : Names → Graph → Deed → Table → Table → Type 0
@@ -32,21 +42,15 @@ pub record Applies (n : Names) (g : Graph) (d : Deed) (changed : Bool) (old new 
   pub grows : Grows changed old new
   pub does : IsApplied n g d old new
 
--- whether a site of the base is one that a write to a field of the struct writes
+-- whether a write to field f of a struct, behind a base with these sites, writes field d of site t
 abbrev pub is_target : Names → Graph → List ℕ → ℕ → ℕ → ℕ → ℕ → Bool
-is_target n g base c f t d = d == f && (has_number base t && is_of_struct n g c t)
+is_target n g sites c f t d = d == f && (has_number sites t && is_of_struct n g c t)
 
--- the targets below a site have got the numbers
-pub record TargetsBelow (n : Names) (g : Graph) (below : ℕ) (base : List ℕ) (c f : ℕ) (more : List ℕ) (changed : Bool) (old new : Table) : Type 0 where
+-- the fields that it writes have got the numbers
+pub record TargetsSet (n : Names) (g : Graph) (sites : List ℕ) (c f : ℕ) (more : List ℕ) (changed : Bool) (old new : Table) : Type 0 where
   pub grows : Grows changed old new
   pub vars : new.vars ≡ old.vars
-  pub cells : (t d s : ℕ) → has_number (cell_items new t d) s ≡ (has_number (cell_items old t d) s || ((nat_lt t below && is_target n g base c f t d) && has_number more s))
-
--- one site has got them, if it is a target
-pub record TargetAt (n : Names) (g : Graph) (site : ℕ) (base : List ℕ) (c f : ℕ) (more : List ℕ) (changed : Bool) (old new : Table) : Type 0 where
-  pub grows : Grows changed old new
-  pub vars : new.vars ≡ old.vars
-  pub cells : (t d s : ℕ) → has_number (cell_items new t d) s ≡ (has_number (cell_items old t d) s || ((t == site && is_target n g base c f t d) && has_number more s))
+  pub cells : (t d s : ℕ) → has_number (cell_items new t d) s ≡ (has_number (cell_items old t d) s || (is_target n g sites c f t d && has_number more s))
 
 -- some writes are applied in turn: a sound table stays sound, and where none of them changed it, it is closed under them
 pub record Rounds (n : Names) (g : Graph) (ds : List Deed) (changed : Bool) (old new : Table) : Type 0 where
@@ -67,8 +71,10 @@ pub record Settling (n : Names) (g : Graph) (old new : Table) : Type 0 where
   pub bounds : new.bounds ≡ old.bounds
   pub sound : IsSound n g old → IsSound n g new
 
--- a table of all that flows by some writes
+-- a table of all that flows by some writes, with room for the sites alone
 pub record Ended (n : Names) (g : Graph) (ds : List Deed) (m : Table) : Type 0 where
-  pub vars : length n.vars ≤ length m.vars
+  pub vars : length m.vars ≡ length n.vars
+  pub sized : IsSized m
+  pub sites : m.bounds.sites ≡ length n.sites
   pub sound : IsSound n g m
   pub closed : All (λ d. IsApplied n g d m m) ds

@@ -6,7 +6,6 @@ ghost use Rattle.alias_facts.specs.Writes.{all_writes};
 ghost use Rattle.alias_facts.specs.Writing.{Ended};
 
 use crate::answers::answer;
-use crate::bounds::Bounds;
 use crate::start::empty_table;
 use crate::table::Table;
 use crate::writes::{bounds_of, writes_of};
@@ -20,12 +19,7 @@ fn table_of(alloc: Global, graph: &Graph, names: &Names, writes: &[Deed]) -> Res
     requires { All (IsDone names.now graph.now) writes.now }
     ensures { IfOk result (Ended names.now graph.now writes.now) }
 {
-    let least = Bounds {
-        vars: names.vars.len(),
-        sites: names.sites.len(),
-        fields: 0,
-    };
-    let bounds = bounds_of(least, writes)?;
+    let bounds = bounds_of(names, writes)?;
     let mut table = empty_table(alloc, bounds)?;
     settle(alloc, graph, names, &mut table, writes)?;
     Ok(table)

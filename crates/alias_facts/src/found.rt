@@ -227,7 +227,7 @@ pub fn in_found(
     }
 }
 
-fn read_of(looked: Looked) -> Read
+pub fn read_of(looked: Looked) -> Read
     ensures { result ≡ read_of looked }
 {
     match looked {
@@ -254,7 +254,7 @@ pub fn in_source(
     source: Source,
 ) -> Result<BitSet, Memory>
     requires sized { IsSized table.now }
-    requires fits { SourceFits table.now.bounds source }
+    requires fits { SourceFits table.now.bounds.sites source }
     ensures { IfOk result (IsFound table.now.bounds.sites (in_source names.now graph.now table.now source)) }
 {
     match source {

@@ -4,7 +4,9 @@
 mod answers;
 mod bounds;
 mod flows;
+mod following;
 mod found;
+mod readers;
 mod start;
 mod table;
 mod writes;

@@ -1,14 +1,13 @@
 // The writes of all edges, and bounds for what they speak of.
-ghost use Rattle.std.specs.Prelude.{◌≡◌, ◌++◌, ◌<◌, ◌≤◌, IfOk, OnOk};
+ghost use Rattle.std.specs.Prelude.{◌≡◌, ◌++◌, ◌<◌, IfOk, OnOk};
 ghost use Rattle.std.specs.List.{All, flat_map};
-ghost use Rattle.alias_facts.specs.Growth.{SourceFits};
-ghost use Rattle.alias_facts.specs.Writes.{IsAbove, Widens, Widened, written, writes_in, writes_of};
-ghost use Rattle.alias_facts.specs.Writing.{DeedFits};
+ghost use Rattle.alias_facts.specs.Writes.{FieldFits, IsBound, written, writes_in, writes_of};
+ghost use Rattle.alias_facts.specs.Writing.{IsInRange};
 
 use crate::bounds::Bounds;
 use mf_list::{Memory, Seq};
 use std::alloc::{AllocError, Global};
-use ts_domain::{Deed, Source};
+use ts_domain::{Deed, Names};
 
 fn add_write(list: &mut Seq<Deed>, deed: Deed) -> Result<(), Memory>
     ensures { OnOk result (list.new ≡ list.old ++ written deed) }
@@ -42,66 +41,48 @@ pub fn writes_of(alloc: Global, all: &[Seq<Deed>]) -> Result<Seq<Deed>, Memory>
     Ok(list)
 }
 
-fn above(bound: usize, number: usize) -> Result<usize, Memory>
-    ensures { IfOk result (IsAbove bound number) }
+fn behind(number: usize) -> Result<usize, Memory>
+    ensures { IfOk result (λ bound. number < bound) }
 {
     match number.checked_add(1) {
         None => Err(AllocError),
-        Some(next) => Ok(bound.max(next)),
+        Some(next) => Ok(next),
     }
 }
 
-fn with_var(bounds: Bounds, variable: usize) -> Result<Bounds, Memory>
-    ensures { IfOk result (λ b. Widens bounds b × (variable < b.vars)) }
+fn behind_field(write: Deed) -> Result<usize, Memory>
+    ensures { IfOk result (λ bound. FieldFits bound write) }
 {
-    let vars = above(bounds.vars, variable)?;
-    Ok(Bounds { vars, ..bounds })
-}
-
-fn with_field(bounds: Bounds, field: usize) -> Result<Bounds, Memory>
-    ensures { IfOk result (λ b. Widens bounds b × (field < b.fields)) }
-{
-    let fields = above(bounds.fields, field)?;
-    Ok(Bounds { fields, ..bounds })
-}
-
-fn with_site(bounds: Bounds, site: usize) -> Result<Bounds, Memory>
-    ensures { IfOk result (λ b. Widens bounds b × (site < b.sites)) }
-{
-    let sites = above(bounds.sites, site)?;
-    Ok(Bounds { sites, ..bounds })
-}
-
-fn with_source(bounds: Bounds, source: Source) -> Result<Bounds, Memory>
-    ensures { IfOk result (λ b. Widens bounds b × SourceFits b source) }
-{
-    match source {
-        Source::New(site) => with_site(bounds, site),
-        Source::Content(_) => Ok(bounds),
-        Source::Null => Ok(bounds),
-        Source::Undef => Ok(bounds),
+    match write {
+        Deed::SetsField(_, _, field, _) => behind(field),
+        Deed::Sets(_, _) => Ok(0),
+        Deed::Reads(_, _) => Ok(0),
+        Deed::Follows(_) => Ok(0),
+        Deed::Says(_) => Ok(0),
     }
 }
 
-fn with_deed(bounds: Bounds, deed: Deed) -> Result<Bounds, Memory>
-    ensures { IfOk result (λ b. Widens bounds b × DeedFits b deed) }
+/// A number that the fields of all writes are below.
+fn field_bound(writes: &[Deed]) -> Result<usize, Memory>
+    ensures { IfOk result (λ bound. All (FieldFits bound) writes.now) }
 {
-    match deed {
-        Deed::Sets(variable, source) => with_source(with_var(bounds, variable)?, source),
-        Deed::SetsField(_, _, field, source) => with_source(with_field(bounds, field)?, source),
-        Deed::Reads(_, _) => Ok(bounds),
-        Deed::Follows(_) => Ok(bounds),
-        Deed::Says(_) => Ok(bounds),
-    }
-}
-
-/// Bounds for all writes, not below those that are given.
-pub fn bounds_of(least: Bounds, writes: &[Deed]) -> Result<Bounds, Memory>
-    ensures { IfOk result (Widened least writes.now) }
-{
-    let mut bounds = least;
+    let mut bound = 0;
     for write in writes {
-        bounds = with_deed(bounds, *write)?;
+        let needed = behind_field(*write)?;
+        bound = bound.max(needed);
     }
-    Ok(bounds)
+    Ok(bound)
+}
+
+/// Bounds for all writes: as many variables and sites as there are.
+pub fn bounds_of(names: &Names, writes: &[Deed]) -> Result<Bounds, Memory>
+    requires { All (IsInRange names.now) writes.now }
+    ensures { IfOk result (IsBound names.now writes.now) }
+{
+    let fields = field_bound(writes)?;
+    Ok(Bounds {
+        vars: names.vars.len(),
+        sites: names.sites.len(),
+        fields,
+    })
 }

@@ -1,10 +1,11 @@
 // Writes that are applied to a table, one by one and until none of them changes it.
-ghost use Rattle.std.specs.Prelude.{◌≡◌, ◌<◌, ◌≤◌, length, IfOk, OnOk};
+ghost use Rattle.std.specs.Prelude.{◌≡◌, [], ◌∷◌, ◌<◌, ◌≤◌, length, IfOk, OnOk};
 ghost use Rattle.std.specs.List.{All};
 ghost use Rattle.ts_domain.specs.May.{IsDone};
 ghost use Rattle.alias_facts.specs.Growth.{IsSized, SourceFits};
-ghost use Rattle.alias_facts.specs.Writing.{Applies, DeedFits, Rounds, Settles, TargetAt, TargetsBelow};
+ghost use Rattle.alias_facts.specs.Writing.{Applies, DeedFits, Rounds, Settles, TargetsSet};
 
+use crate::following::follow;
 use crate::found::{in_found, in_source, is_of_struct};
 use crate::table::{Table, join_cell, join_var};
 use c_graph::Graph;
@@ -23,7 +24,7 @@ fn set_var(
 ) -> Result<bool, Memory>
     requires sized { IsSized table.old }
     requires variable { variable < table.old.bounds.vars }
-    requires fits { SourceFits table.old.bounds source }
+    requires fits { SourceFits table.old.bounds.sites source }
     ensures { IfOk result (λ changed. Applies names.now graph.now (Deed.Sets variable source) changed table.old table.new) }
 {
     let more = in_source(alloc, graph, names, table, source)?;
@@ -35,18 +36,17 @@ fn set_target(
     names: &Names,
     table: &mut Table,
     site: usize,
-    base: &BitSet,
     of: usize,
     field: usize,
     more: &BitSet,
 ) -> bool
     requires sized { IsSized table.old }
-    requires site { site < table.old.bounds.sites }
+    requires sites { length names.now.sites ≤ table.old.bounds.sites }
     requires field { field < table.old.bounds.fields }
     requires room { more.now.room ≡ table.old.bounds.sites }
-    ensures { TargetAt names.now graph.now site base.now.items of field more.now.items result table.old table.new }
+    ensures { TargetsSet names.now graph.now (site ∷ []) of field more.now.items result table.old table.new }
 {
-    if base.contains(site) && is_of_struct(graph, names, of, site) {
+    if is_of_struct(graph, names, of, site) {
         join_cell(table, site, field, more)
     } else {
         false
@@ -57,7 +57,7 @@ fn set_targets(
     graph: &Graph,
     names: &Names,
     table: &mut Table,
-    base: &BitSet,
+    sites: &[usize],
     of: usize,
     field: usize,
     more: &BitSet,
@@ -66,11 +66,11 @@ fn set_targets(
     requires sites { length names.now.sites ≤ table.old.bounds.sites }
     requires field { field < table.old.bounds.fields }
     requires room { more.now.room ≡ table.old.bounds.sites }
-    ensures { TargetsBelow names.now graph.now (length names.now.sites) base.now.items of field more.now.items result table.old table.new }
+    ensures { TargetsSet names.now graph.now sites.now of field more.now.items result table.old table.new }
 {
     let mut changed = false;
-    for site in 0..names.sites.len() {
-        changed |= set_target(graph, names, table, site, base, of, field, more);
+    for site in sites {
+        changed |= set_target(graph, names, table, *site, of, field, more);
     }
     changed
 }
@@ -88,16 +88,17 @@ fn set_field(
     requires sized { IsSized table.old }
     requires sites { length names.now.sites ≤ table.old.bounds.sites }
     requires field { field < table.old.bounds.fields }
-    requires fits { SourceFits table.old.bounds source }
+    requires fits { SourceFits table.old.bounds.sites source }
     ensures { IfOk result (λ changed. Applies names.now graph.now (Deed.SetsField base of field source) changed table.old table.new) }
 {
-    let targets = in_found(alloc, graph, names, table, base)?;
+    let found = in_found(alloc, graph, names, table, base)?;
     let more = in_source(alloc, graph, names, table, source)?;
-    Ok(set_targets(graph, names, table, &targets, of, field, &more))
+    let sites = found.to_vec(alloc)?;
+    Ok(set_targets(graph, names, table, sites.as_slice(), of, field, &more))
 }
 
 /// Adds what a deed writes, and says whether that is new.
-fn apply(
+pub fn apply(
     alloc: Global,
     graph: &Graph,
     names: &Names,
@@ -155,6 +156,7 @@ pub fn settle(
     requires done { All (IsDone names.now graph.now) writes.now }
     ensures { OnOk result (Settles names.now graph.now writes.now table.old table.new) }
 {
+    follow(alloc, graph, names, table, writes)?;
     while round(alloc, graph, names, table, writes)? {}
     Ok(())
 }
