@@ -1,0 +1,9 @@
+pub mod CorrectionLaws
+pub mod DeedLaws
+pub mod FactNumbers
+pub mod NumberingLaws
+pub mod PathLaws
+pub mod SolvedLaws
+pub mod StartLaws
+pub mod StepLaws
+pub mod WorklistLaws

@@ -1,0 +1,5 @@
+pub mod Corrections
+pub mod Numbering
+pub mod Paths
+pub mod Start
+pub mod Worklist
