@@ -1,0 +1,5 @@
+pub mod Elements
+pub mod Ranks
+pub mod BitLaws
+pub mod ChoiceLaws
+pub mod FoundLaws

@@ -1,0 +1,6 @@
+pub mod Members
+pub mod CountLaws
+pub mod AllowedLaws
+pub mod ProblemLaws
+pub mod CoverLaws
+pub mod AloneLaws

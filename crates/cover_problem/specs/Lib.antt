@@ -1,0 +1,4 @@
+pub mod Parts
+pub mod Problem
+pub mod Alone
+pub mod Covering
