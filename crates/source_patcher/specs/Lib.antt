@@ -1,0 +1,4 @@
+pub mod PutsByGap
+pub mod Gaps
+pub mod Changes
+pub mod Edit
