@@ -1,5 +1,5 @@
 -- Requests and reads of the input do their deeds, and keep the types, be it with an object more.
-use Rattle.std.proofs.Common.{◌≡◌, ℕ, true, false, ℤ, List, [], ◌++◌, slice_get, length, Option, Some, None, Ok, refl, ap, sym, subst, ◌∙◌}
+use Rattle.std.proofs.Common.{◌≡◌, ℕ, ◌+◌, true, false, ℤ, List, [], ◌++◌, slice_get, length, Option, Some, None, Ok, refl, ap, sym, subst, ◌∙◌}
 use Rattle.std.proofs.Math.Path.{fun_ext}
 use Rattle.std.proofs.lemmas.List.{append-nil}
 use Rattle.c_tree.specs.AlikeTest.{same_ty}
@@ -132,10 +132,10 @@ module _ (n : Names) (g : Graph) (sites : List ℕ) (s : Store) where
 
     -- a request that makes an object, up to the birth of the object
     pub granted_goes : (p : Program) (place : Option Expr) (z : Size) (k v : ℕ) (l : Option Location) (c : ℤ) → answer_fits d (size_type z) place ≡ true → count_fits d z ≡ true → target_location s place ≡ Ok l → count_of p s z ≡ Ok c →
-        slice_get n.sites k ≡ Some v → slice_get sites (length s.objects) ≡ Some v → object_type g sites (length s.objects) ≡ Some (size_type z) → IsFresh (view_of n s) (length s.objects) →
+        slice_get n.sites k ≡ Some v → slice_get sites (length s.objects) ≡ Some v → object_type g sites (length s.objects) ≡ Some (size_type z) → IsFresh (view_of n s) (length s.objects) → length sites ≡ length s.objects + 1 →
         Goes n g sites s (malloc_deeds n place z (Some k) way.Made) (answered l (value.Ptr (length s.objects)) s)
-    granted_goes p place z k v l c fits counts at count named site made fresh =
+    granted_goes p place z k v l c fits counts at count named site made fresh last =
         let o = length s.objects in
         let it = request_done p place z l c fits counts at count in
-        let write = answer_written place (size_type z) l (value.Ptr o) (source.New k) it.1 it.0 fits it.3 (made, size_points z) (λ points. ((o, v, refl, named, site, fresh), λ e. absurd cc)) in
+        let write = answer_written place (size_type z) l (value.Ptr o) (source.New k) it.1 it.0 fits it.3 (made, size_points z) (λ points. ((o, v, refl, named, site, fresh, last), λ e. absurd cc)) in
         (makes_behind n g sites s (place_deeds n place ++ size_deeds n z) (written_any n place (source.New k)) [] it.1 (answered l (value.Ptr o) s) it.2 write.0, write.1)

@@ -45,7 +45,7 @@ then_ok (Err e) f b h = absurd cc
 
 quiet_number : (r : Result Value Stop) (v : Value) → Quiet r → r ≡ Ok v → (m : ℤ) × (v ≡ value.Int m)
 quiet_number _ v (number m) h = let e : value.Int m ≡ v = cc in (m, sym e)
-quiet_number _ v (fault kind offset apart) h = absurd cc
+quiet_number _ v (fault kind offset harmless) h = absurd cc
 quiet_number _ v nothing h = absurd cc
 
 pub typed_place : (o : Option Sort) (test : Ty → Bool) → has test (option_and_then type_in o) ≡ true → (t : Ty) × (o ≡ Some (Of t)) × (test t ≡ true)

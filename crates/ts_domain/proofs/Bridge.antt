@@ -73,7 +73,7 @@ back_objects p f (Some x) (Some v) s = refl
 back_objects p f (Some x) None s = refl
 back_objects p f None v s = refl
 
-last_site : (sites : List ℕ) (v i : ℕ) → i ≡ length sites → slice_get (sites ++ v ∷ []) i ≡ Some v
+pub last_site : (sites : List ℕ) (v i : ℕ) → i ≡ length sites → slice_get (sites ++ v ∷ []) i ≡ Some v
 last_site sites v i is = subst (λ (k : ℕ). slice_get (sites ++ v ∷ []) k ≡ Some v) (sym is) (at_end sites)
   where
     at_end : (xs : List ℕ) → slice_get (xs ++ v ∷ []) (length xs) ≡ Some v
@@ -130,13 +130,14 @@ module _ (p : Program) (g : Graph) (n : Names) (names : AreNames p g n) (fits : 
         let types = asked_types us (more_types n g sites (v ∷ []) s typed.types typed.objects) in
         let here : slice_get us (length s.objects) ≡ Some v = last_site sites v (length s.objects) typed.objects in
         let made : object_type g us (length s.objects) ≡ Some (size_type z) = ap (option_and_then (site_type g)) here ∙ ap (option_and_then (λ (node : Node). kind_type node.kind)) stands in
-        let goes = granted_goes n g us (asked s) (declarations p) same_names places types p place z site.0 v l (pos m) both.0 both.1 (target_asked s place ∙ at) (count_asked p s z ∙ count) site.2 here made (is_fresh n g sites s typed) in
+        let longer : length us ≡ length sites + 1 = length-append sites (v ∷ []) in
+        let last : length us ≡ length s.objects + 1 = longer ∙ ap (λ (i : ℕ). i + 1) (sym typed.objects) in
+        let goes = granted_goes n g us (asked s) (declarations p) same_names places types p place z site.0 v l (pos m) both.0 both.1 (target_asked s place ∙ at) (count_asked p s z ∙ count) site.2 here made (is_fresh n g sites s typed) last in
         let answer = answer_done n g us (asked s) (declarations p) same_names places types place (size_type z) l both.0 (target_asked s place ∙ at) in
         let old = answer_old n g us (asked s) (declarations p) same_names places place (size_type z) l answer.0 (size_points z) both.0 answer.2 in
         let view = same_then_view goes.0.0.view A m goes.0.2 in
         let many : length A.objects ≡ length s.objects = answered_objects l o (asked s) in
         let more : length (born m A).objects ≡ length A.objects + 1 = length-append A.objects _ in
-        let longer : length us ≡ length sites + 1 = length-append sites (v ∷ []) in
         let counted = typed.objects in
         let all_many : length (born m A).objects ≡ length us = omega arith in
         subst (λ (t : Store). GoesOn n g us s (malloc_deeds n place z (site_of n v) way.Made) t) (sym (born_behind m (asked s) l o old)) (

@@ -14,6 +14,7 @@ use Rattle.ts_domain.specs.declared.deed.Deed.{Deed}
 use Rattle.ts_domain.specs.declared.deed.Deed.TheVariants.{Reads, Follows, Says, Sets, SetsField}
 use Rattle.ts_domain.specs.declared.names.Names.{Names}
 use Rattle.ts_domain.specs.declared.names.Read.{Read}
+use Rattle.ts_domain.specs.FreedReads.{IsHarmless}
 use Rattle.ts_domain.specs.Looks.{is_noted, is_noted_read, notes}
 use Rattle.ts_domain.specs.Views.{view_of, Seen, added, Finds, DoesAll}
 
@@ -63,7 +64,7 @@ module _ (n : Names) (g : Graph) (sites : List ℕ) where
       meets_freed : (front : List Deed) (r : Read) (noted : Bool) (back : List Deed) (behind : List Value) (o offset : ℕ) → ds ≡ front ++ Reads r noted ∷ back →
           DoesAll n g sites front (seen_with found) (seen_with behind) → Finds n g sites (view_of n s) r (value.Ptr o) → is_freed s.objects o ≡ true → Course A Q ds found (Err (Faulted UseAfterFree offset))
       -- another fault
-      faults : (kind : Kind) (offset : ℕ) → (kind ≡ UseAfterFree → ⊥) → Course A Q ds found (Err (Faulted kind offset))
+      faults : (kind : Kind) (offset : ℕ) → IsHarmless kind → Course A Q ds found (Err (Faulted kind offset))
       -- the types exclude it
       is_excluded : Course A Q ds found (Err Excluded)
 
@@ -71,7 +72,7 @@ module _ (n : Names) (g : Graph) (sites : List ℕ) where
       pub course_weaker : (Q R : A → List Value → Type 0) (ds : List Deed) (found : List Value) (r : Result A Stop) → ((a : A) (behind : List Value) → Remembers ds found behind → Q a behind → R a behind) → Course A Q ds found r → Course A R ds found r
       course_weaker Q R ds found _ h (all_done a behind does q) = all_done a behind does (h a behind (done_remembers ds (seen_with found) (seen_with behind) does) q)
       course_weaker Q R ds found _ h (meets_freed front r noted back behind o offset is does finds freed) = meets_freed front r noted back behind o offset is does finds freed
-      course_weaker Q R ds found _ h (faults kind offset apart) = faults kind offset apart
+      course_weaker Q R ds found _ h (faults kind offset harmless) = faults kind offset harmless
       course_weaker Q R ds found _ h is_excluded = is_excluded
 
       -- behind deeds that were done
@@ -80,7 +81,7 @@ module _ (n : Names) (g : Graph) (sites : List ℕ) where
       course_behind Q ds es found behind _ did (meets_freed front r noted back later o offset is does finds freed) =
           meets_freed (ds ++ front) r noted back later o offset (ap (λ (xs : List Deed). ds ++ xs) is ∙ sym (append_assoc ds front (Reads r noted ∷ back)))
           (done_append ds front (seen_with found) (seen_with behind) (seen_with later) did does) finds freed
-      course_behind Q ds es found behind _ did (faults kind offset apart) = faults kind offset apart
+      course_behind Q ds es found behind _ did (faults kind offset harmless) = faults kind offset harmless
       course_behind Q ds es found behind _ did is_excluded = is_excluded
 
     -- one thing, and then another
@@ -90,5 +91,5 @@ module _ (n : Names) (g : Graph) (sites : List ℕ) where
         course_behind R ds es found behind (f a) does (h a behind (done_remembers ds (seen_with found) (seen_with behind) does) q)
     course_then Q R ds es found _ f (meets_freed front r noted back behind o offset is does finds freed) h =
         meets_freed front r noted (back ++ es) behind o offset (ap (λ (xs : List Deed). xs ++ es) is ∙ append_assoc front (Reads r noted ∷ back) es) does finds freed
-    course_then Q R ds es found _ f (faults kind offset apart) h = faults kind offset apart
+    course_then Q R ds es found _ f (faults kind offset harmless) h = faults kind offset harmless
     course_then Q R ds es found _ f is_excluded h = is_excluded

@@ -15,7 +15,7 @@ use Rattle.c_tree.specs.declared.program.Ty.TheVariants as ty
 use Rattle.c_meaning.specs.declared.value.Value.{Value}
 use Rattle.c_meaning.specs.declared.value.Value.TheVariants as value
 use Rattle.c_meaning.specs.declared.machine.Kind.{Kind}
-use Rattle.c_meaning.specs.declared.machine.Kind.TheVariants.{NullDeref, Bounds, Uninit, UseAfterFree, Overflow, DivZero}
+use Rattle.c_meaning.specs.declared.machine.Kind.TheVariants.{NullDeref, Bounds, Uninit, Overflow, DivZero}
 use Rattle.c_meaning.specs.declared.machine.Location.{Location}
 use Rattle.c_meaning.specs.declared.machine.Location.TheVariants.{Slot, Cell}
 use Rattle.c_meaning.specs.declared.machine.Stop.{Stop}
@@ -30,6 +30,7 @@ use Rattle.ts_domain.specs.declared.names.Read.{Read}
 use Rattle.ts_domain.specs.declared.names.Read.TheVariants as read
 use Rattle.ts_domain.specs.declared.pointers.Pointer.{Pointer}
 use Rattle.ts_domain.specs.Deeds.{looked_at}
+use Rattle.ts_domain.specs.FreedReads.{IsHarmless}
 use Rattle.ts_domain.specs.Looks.{Look, itself, followed_read, followed, is_noted_read, notes}
 use Rattle.ts_domain.specs.Pointers.{is_pointer, type_of, field_type, place_of as variable_place, field_place, var_pointer, chained, field_read, pointer_if, field_of_struct, field_pointer}
 use Rattle.ts_domain.specs.TypedMachines.{Fits, cell_type, location_type, HasTypes}
@@ -42,7 +43,7 @@ use Rattle.ts_domain.proofs.PointerSorts.{AreDeclared, AgreesWith}
 
 pub data Quiet : Result Value Stop → Type 0 where
   number : (m : ℤ) → Quiet (Ok (value.Int m))
-  fault : (kind : Kind) (offset : ℕ) → (kind ≡ UseAfterFree → ⊥) → Quiet (Err (Faulted kind offset))
+  fault : (kind : Kind) (offset : ℕ) → IsHarmless kind → Quiet (Err (Faulted kind offset))
   nothing : Quiet (Err Excluded)
 
 said_quiet : (b : Bool) → Quiet (Ok (said b))
@@ -51,18 +52,18 @@ said_quiet false = number (pos 0)
 
 fitted_by : (offset : ℕ) (m : ℤ) (b : Bool) → Quiet (if b then Ok (value.Int m) else flaw Overflow offset)
 fitted_by offset m true = number m
-fitted_by offset m false = fault Overflow offset (λ e. cc)
+fitted_by offset m false = fault Overflow offset tt
 
 pub fitted_quiet : (offset : ℕ) (m : ℤ) → Quiet (fitted offset m)
 fitted_quiet offset m = fitted_by offset m (fits m)
 
 divided_by : (offset : ℕ) (m : ℤ) (b : Bool) → Quiet (if b then flaw DivZero offset else fitted offset m)
-divided_by offset m true = fault DivZero offset (λ e. cc)
+divided_by offset m true = fault DivZero offset tt
 divided_by offset m false = fitted_quiet offset m
 
 quiet_then : (m : ℤ) (r : Result Value Stop) → Quiet r → Quiet (r >>= λ q. Ok (value.Int m))
 quiet_then m _ (number q) = number m
-quiet_then m _ (fault kind offset apart) = fault kind offset apart
+quiet_then m _ (fault kind offset harmless) = fault kind offset harmless
 quiet_then m _ nothing = nothing
 
 arithmetic_quiet : (o : Oper) (offset : ℕ) (a b : ℤ) → Quiet (arithmetic o offset a b)
@@ -272,7 +273,7 @@ module _ (n : Names) (g : Graph) (sites : List ℕ) (s : Store) where
   -- a content is read that is no pointer
   read_plain : (t : Ty) (noted : Bool) (offset : ℕ) (c : Value) (found : List Value) → Fits g sites t c → is_pointer t ≡ false →
       Course n g sites s Value (λ a behind. Holds (Of t) a × Shown None noted (length found) behind a) [] found (read_content s.objects offset c)
-  read_plain t noted offset value.Undef found fit plain = faults Uninit offset (λ e. absurd cc)
+  read_plain t noted offset value.Undef found fit plain = faults Uninit offset tt
   read_plain t noted offset (value.Int m) found fit plain = all_done (value.Int m) found refl ((fit, λ e. absurd cc), tt)
   read_plain t noted offset value.Null found fit plain = let never : true ≡ false = sym fit ∙ plain in absurd cc
   read_plain t noted offset (value.Ptr o) found fit plain = let never : true ≡ false = sym fit.1 ∙ plain in absurd cc
@@ -280,7 +281,7 @@ module _ (n : Names) (g : Graph) (sites : List ℕ) (s : Store) where
   -- or a pointer
   read_pointer : (p : Pointer) (t : Ty) (noted : Bool) (offset : ℕ) (c : Value) (found : List Value) → Fits g sites t c → is_pointer t ≡ true → Finds n g sites (view_of n s) p.read (pointing c) →
       Course n g sites s Value (λ a behind. Holds (Of t) a × Shown (Some p) noted (length found) behind a) (itself noted (Some p)) found (read_content s.objects offset c)
-  read_pointer p t noted offset value.Undef found fit points finds = faults Uninit offset (λ e. absurd cc)
+  read_pointer p t noted offset value.Undef found fit points finds = faults Uninit offset tt
   read_pointer p t noted offset (value.Int m) found fit points finds = let never : true ≡ false = sym points ∙ ap is_pointer fit in absurd cc
   read_pointer p t noted offset value.Null found fit points finds =
       all_done value.Null (added (is_noted_read p.read noted) value.Null found) (done_read p.read noted value.Null found finds (λ e. absurd cc))
@@ -297,7 +298,7 @@ module _ (n : Names) (g : Graph) (sites : List ℕ) (s : Store) where
   -- numbers, which nothing is looked at by
   pub quiet_course : (found : List Value) (r : Result Value Stop) → Quiet r → Course n g sites s Value (λ a behind. Holds (Of ty.Int) a) [] found r
   quiet_course found _ (number m) = all_done (value.Int m) found refl (refl, λ e. absurd cc)
-  quiet_course found _ (fault kind offset apart) = faults kind offset apart
+  quiet_course found _ (fault kind offset harmless) = faults kind offset harmless
   quiet_course found _ nothing = is_excluded
 
   pub course_map : {A B : Type 0} (Q : A → List Value → Type 0) (R : B → List Value → Type 0) (ds : List Deed) (found : List Value) (r : Result A Stop) (f : A → Result B Stop) → Course n g sites s A Q ds found r →
@@ -338,7 +339,7 @@ module _ (n : Names) (g : Graph) (sites : List ℕ) (s : Store) where
     slot_is_peeked : (k x : ℕ) → slice_get n.vars k ≡ Some x → peek n (view_of n s) k ≡ (view_of n s).slot k
     slot_is_peeked k x there = ap (λ (b : Bool). if b then (view_of n s).slot k else peek_field (view_of n s) (slice_get n.fields (k - length n.vars))) (lt-ltb k (length n.vars) (slice_get_within n.vars k x there))
 
-    peek_of_field : (v : View) (j k f : ℕ) → slice_get n.fields j ≡ Some (k, f) → peek n v (length n.vars + j) ≡ field_seen v f (v.slot k)
+    pub peek_of_field : (v : View) (j k f : ℕ) → slice_get n.fields j ≡ Some (k, f) → peek n v (length n.vars + j) ≡ field_seen v f (v.slot k)
     peek_of_field v j k f there =
         let past : length n.vars ≤ length n.vars + j = omega arith in
         let back : length n.vars + j - length n.vars ≡ j = omega arith in
@@ -388,7 +389,7 @@ module _ (n : Names) (g : Graph) (sites : List ℕ) (s : Store) where
         Course n g sites s Location (λ l behind. IsLocation (option_and_then (field_pointer n f) q) t l × IsFieldAt q f l) (followed n q) found (field_cell s.objects at f v)
     field_course q c f at t value.Undef found typed agrees fit finds = is_excluded
     field_course q c f at t (value.Int m) found typed agrees fit finds = is_excluded
-    field_course q c f at t value.Null found typed agrees fit finds = faults NullDeref at (λ e. absurd cc)
+    field_course q c f at t value.Null found typed agrees fit finds = faults NullDeref at tt
     field_course q c f at t (value.Ptr o) found typed agrees fit finds = by_count (nat_lt f (length (cells_of s.objects o))) refl
       where
         pointer_type : (p : Pointer) → q ≡ Some p → p.ty ≡ ty.StructPtr c
@@ -408,13 +409,13 @@ module _ (n : Names) (g : Graph) (sites : List ℕ) (s : Store) where
         Course n g sites s Location (λ l behind. IsLocation None ty.Int l) (followed n q) found (cell_of s.objects at i v)
     element_course q at i value.Undef found fit finds = is_excluded
     element_course q at i (value.Int m) found fit finds = is_excluded
-    element_course q at i value.Null found fit finds = faults NullDeref at (λ e. absurd cc)
-    element_course q at (negsuc k) (value.Ptr o) found fit finds = faults Bounds at (λ e. absurd cc)
+    element_course q at i value.Null found fit finds = faults NullDeref at tt
+    element_course q at (negsuc k) (value.Ptr o) found fit finds = faults Bounds at tt
     element_course q at (pos k) (value.Ptr o) found fit finds = by_count (nat_lt k (length (cells_of s.objects o)))
       where
         by_count : (b : Bool) → Course n g sites s Location (λ l behind. IsLocation None ty.Int l) (followed n q) found (if b then Ok (Cell o k) else flaw Bounds at)
         by_count true = all_done (Cell o k) found (follow_done q o found finds) (ap (option_and_then (cell_type n k)) fit.0, λ p is. absurd cc)
-        by_count false = faults Bounds at (λ e. absurd cc)
+        by_count false = faults Bounds at tt
 
     module _ (typed : HasTypes n g sites s) where
       -- the read of a location

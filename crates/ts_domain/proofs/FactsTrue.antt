@@ -35,10 +35,10 @@ or_parts true b h = inl refl
 or_parts false b h = inr h
 
 module _ (n : Names) where
-  peek_low : (v : View) (k : ℕ) → k < length n.vars → peek n v k ≡ v.slot k
+  pub peek_low : (v : View) (k : ℕ) → k < length n.vars → peek n v k ≡ v.slot k
   peek_low v k low = ap (λ (b : Bool). if b then v.slot k else peek_field v (slice_get n.fields (k - length n.vars))) (lt-ltb k (length n.vars) low)
 
-  peek_past : (v : View) (j : ℕ) (q : ℕ × ℕ) → slice_get n.fields j ≡ Some q → peek n v (length n.vars + j) ≡ field_seen v q.1 (v.slot q.0)
+  pub peek_past : (v : View) (j : ℕ) (q : ℕ × ℕ) → slice_get n.fields j ≡ Some q → peek n v (length n.vars + j) ≡ field_seen v q.1 (v.slot q.0)
   peek_past v j q there =
       let past : length n.vars ≤ length n.vars + j = omega arith in
       let back : length n.vars + j - length n.vars ≡ j = omega arith in

@@ -51,7 +51,7 @@ marked_cells objects o q = by_place (o == q) refl
         (ap (λ (x : Option Object). unwrap_or (option_map (λ (b : Object). b.cells) x) []) (altered_here marked_freed o objects) ∙ by_object (slice_get objects o))
     by_place false is = ap (λ (x : Option Object). unwrap_or (option_map (λ (b : Object). b.cells) x) []) (altered_there marked_freed o q objects (eqb-false o q is))
 
-deallocated_same : (o : ℕ) (s : Store) → HasSame s (deallocated o s)
+pub deallocated_same : (o : ℕ) (s : Store) → HasSame s (deallocated o s)
 deallocated_same o s = record { contents = contents; slots = refl; objects = altered_many marked_freed o s.objects }
   where
     contents : (l : Location) → content (deallocated o s) l ≡ content s l
@@ -73,7 +73,7 @@ result_same word offset (Ok v) s = value_same word offset v s
 result_same word offset (Err (Faulted kind at)) s = record { contents = λ l. refl; slots = refl; objects = refl }
 result_same word offset (Err Excluded) s = record { contents = λ l. refl; slots = refl; objects = refl }
 
-freed_same : (f : Free) (s : Store) → HasSame s (freed f s)
+pub freed_same : (f : Free) (s : Store) → HasSame s (freed f s)
 freed_same f s = result_same f.start (offset_of f.expr) (freed_layer s f.expr (out-Expr f.expr)) s
 
 all_same_by : (f : Free) (fs : List Free) (s : Store) (b : Bool) → HasSame (freed f s) (all_freed fs (freed f s)) → HasSame s (if b then freed f s else all_freed fs (freed f s))

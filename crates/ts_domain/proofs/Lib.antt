@@ -11,6 +11,16 @@ pub mod FactsTrue
 pub mod Frees
 pub mod MayRuns
 pub mod MayTrue
+pub mod HoldingLaws
+pub mod DeedShapes
+pub mod MarksDescribe
+pub mod WritesDescribe
+pub mod EntryLists
+pub mod PostsDescribe
+pub mod ReadsTouch
+pub mod BirthsDescribe
+pub mod EdgesDescribe
+pub mod RunsDescribe
 pub mod NameLaws
 pub mod NewObjects
 pub mod Parameters
@@ -32,3 +42,12 @@ mod SiteLaws
 mod FactNumbers
 mod MarkLaws
 mod EntryLaws
+pub mod ActionCourses
+pub mod FaultReads
+pub mod FaultRuns
+pub mod PeekedFrees
+pub mod ExitRuns
+pub mod NamedFrees
+pub mod GapFrees
+pub mod Members
+pub mod DerivedLaws

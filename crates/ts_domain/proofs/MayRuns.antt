@@ -20,11 +20,12 @@ use Rattle.c_graph.specs.Nodes.{graph}
 use Rattle.c_graph.proofs.Kept.{met_holds}
 use Rattle.ts_domain.specs.declared.names.Names.{Names}
 use Rattle.ts_domain.specs.Deeds.{edge_deeds}
+use Rattle.ts_domain.specs.Holding.{IsSite}
 use Rattle.ts_domain.specs.TypedMachines.{IsTyped}
 use Rattle.ts_domain.specs.Views.{AreNames, View, view_of, slot_seen, pointing, first_seen}
 use Rattle.ts_domain.proofs.Answers.{same_is}
 use Rattle.ts_domain.proofs.Frees.{HasSame, same_typed}
-use Rattle.ts_domain.proofs.MayTrue.{IsSite, IsMayTrue, deeds_may}
+use Rattle.ts_domain.proofs.MayTrue.{IsMayTrue, deeds_may}
 use Rattle.ts_domain.proofs.PathTrue.{no_object}
 use Rattle.ts_domain.proofs.Stores.{same_view}
 use Rattle.ts_domain.proofs.TypedRuns.{start_typed, fault_same, executed_goes}

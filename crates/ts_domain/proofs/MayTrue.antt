@@ -21,14 +21,11 @@ use Rattle.ts_domain.specs.declared.deed.Source.TheVariants as source
 use Rattle.ts_domain.specs.declared.names.Names.{Names}
 use Rattle.ts_domain.specs.declared.names.Read.{Read}
 use Rattle.ts_domain.specs.declared.names.Read.TheVariants as read
+use Rattle.ts_domain.specs.Holding.{IsSite}
 use Rattle.ts_domain.specs.May.{struct_of_kind, struct_of, IsDone, Variable, FieldOf, Found, Of, Flows, sets, sets_field, of_variable, of_field, deep, content, new}
 use Rattle.ts_domain.specs.Numbering.{makes}
 use Rattle.ts_domain.specs.Views.{AreNames, View, with_slot, with_field, peek_field, field_seen, kind_type, site_type, object_type, Seen, Finds, Gives, Does, DoesAll}
 use Rattle.ts_domain.proofs.NameLaws.{passing_once}
-
--- the place among the sites of the node that made an object
-abbrev pub IsSite : Names → List ℕ → ℕ → ℕ → Type 0
-IsSite n sites o t = (w : ℕ) × (slice_get sites o ≡ Some w) × (slice_get n.sites t ≡ Some w)
 
 -- what is pointed to was made at a site that flows there
 pub record IsMayTrue (n : Names) (g : Graph) (sites : List ℕ) (v : View) : Type 0 where
@@ -36,7 +33,7 @@ pub record IsMayTrue (n : Names) (g : Graph) (sites : List ℕ) (v : View) : Typ
   pub cells : (o f q : ℕ) → v.cell o f ≡ value.Ptr q → (s t : ℕ) × IsSite n sites q s × IsSite n sites o t × Flows n g s (FieldOf t f)
 
 module _ (p : Program) (g : Graph) (n : Names) (names : AreNames p g n) (sites : List ℕ) where
-  site_once : (o t u : ℕ) → IsSite n sites o t → IsSite n sites o u → t ≡ u
+  pub site_once : (o t u : ℕ) → IsSite n sites o t → IsSite n sites o u → t ≡ u
   site_once o t u a b =
       let same : Some a.0 ≡ Some b.0 = sym a.1 ∙ b.1 in
       let w_is : a.0 ≡ b.0 = cc in
@@ -52,7 +49,7 @@ module _ (p : Program) (g : Graph) (n : Names) (names : AreNames p g n) (sites :
   node_struct None c h = absurd cc
   node_struct (Some x) c h = kind_struct x.kind c h
 
-  site_struct : (o t c : ℕ) → IsSite n sites o t → object_type g sites o ≡ Some (ty.StructPtr c) → struct_of n g t ≡ Some c
+  pub site_struct : (o t c : ℕ) → IsSite n sites o t → object_type g sites o ≡ Some (ty.StructPtr c) → struct_of n g t ≡ Some c
   site_struct o t c a h =
       ap (option_and_then (λ v. option_and_then (λ (x : Node). struct_of_kind x.kind) (slice_get g.nodes v))) a.2
       ∙ node_struct (slice_get g.nodes a.0) c (ap (option_and_then (site_type g)) (sym a.1) ∙ h)

@@ -160,7 +160,7 @@ born_types n g sites s m typed = record {
 -- nothing holds what is not there yet
 
 module _ (n : Names) (g : Graph) (sites : List ℕ) (s : Store) (typed : IsTyped n g sites s) where
-  pointed : (v : Value) (o : ℕ) → pointing v ≡ value.Ptr o → v ≡ value.Ptr o
+  pub pointed : (v : Value) (o : ℕ) → pointing v ≡ value.Ptr o → v ≡ value.Ptr o
   pointed value.Undef o h = absurd cc
   pointed (value.Int m) o h = absurd cc
   pointed value.Null o h = absurd cc

@@ -72,7 +72,7 @@ module _ (n : Names) (g : Graph) (sites : List ℕ) (s : Store) where
       (behind : List Value) × DoesAll n g sites ds (seen_with n g sites s found) (seen_with n g sites s behind) × Q a behind
   course_ok Q ds found _ a (all_done b behind does q) is = let e : b ≡ a = cc in (behind, does, subst (λ x. Q x behind) e q)
   course_ok Q ds found _ a (meets_freed front r noted back behind o offset at does finds freed) is = absurd cc
-  course_ok Q ds found _ a (faults kind offset apart) is = absurd cc
+  course_ok Q ds found _ a (faults kind offset harmless) is = absurd cc
   course_ok Q ds found _ a is_excluded is = absurd cc
 
   -- these deeds lead to the view of that machine

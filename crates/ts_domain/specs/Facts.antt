@@ -197,16 +197,26 @@ abbrev pub is_field : Names → Read → ℕ → Bool
 is_field n (read.Name k) j = k == length n.vars + j
 is_field n (read.Deep s f) j = false
 
+-- whether a read is of a variable
+abbrev pub is_variable : Read → ℕ → Bool
+is_variable (read.Name k) x = k == x
+is_variable (read.Deep s f) x = false
+
 -- a read shows that what it reads is not indeterminate
 abbrev pub read_shows : Names → Read → Fact → Bool
-read_shows n (read.Name k) (Ready x) = k == x
+read_shows n r (Ready x) = is_variable r x
+read_shows n r (Full x) = false
 read_shows n r (Filled j) = is_field n r j
-read_shows n r _ = false
+read_shows n r (Equal x y) = false
+read_shows n r (Apart x y) = false
 
 -- a variable that is followed holds an object
 abbrev pub follow_shows : ℕ → Fact → Bool
+follow_shows k (Ready x) = false
 follow_shows k (Full x) = k == x
-follow_shows k _ = false
+follow_shows k (Filled j) = false
+follow_shows k (Equal x y) = false
+follow_shows k (Apart x y) = false
 
 -- a field of a variable that is written is set: what is stored was read or made, and is not indeterminate
 abbrev pub is_field_of : ℕ → ℕ → Option (ℕ × ℕ) → Bool
@@ -214,8 +224,12 @@ is_field_of x f None = false
 is_field_of x f (Some p) = p.0 == x && p.1 == f
 
 abbrev pub write_shows : Names → Read → ℕ → Fact → Bool
+write_shows n (read.Name x) f (Ready y) = false
+write_shows n (read.Name x) f (Full y) = false
 write_shows n (read.Name x) f (Filled j) = is_field_of x f (slice_get n.fields j)
-write_shows n r f _ = false
+write_shows n (read.Name x) f (Equal y z) = false
+write_shows n (read.Name x) f (Apart y z) = false
+write_shows n (read.Deep s g) f h = false
 
 -- a null pointer holds no object, so it is apart from all, and its fields count as set
 abbrev pub owns_field : ℕ → Option (ℕ × ℕ) → Bool
@@ -223,22 +237,39 @@ owns_field x None = false
 owns_field x (Some p) = p.0 == x
 
 abbrev pub null_shows : Names → ℕ → Fact → Bool
-null_shows n x (Apart y z) = x == y || x == z
+null_shows n x (Ready y) = false
+null_shows n x (Full y) = false
 null_shows n x (Filled j) = owns_field x (slice_get n.fields j)
-null_shows n x _ = false
+null_shows n x (Equal y z) = false
+null_shows n x (Apart y z) = x == y || x == z
 
 -- two variables that are compared
 abbrev pub is_pair : Looked → Looked → ℕ → ℕ → Bool
 is_pair (looked.Name k) (looked.Name l) x y = (k == x && l == y) || (k == y && l == x)
-is_pair _ _ x y = false
+is_pair (looked.Name k) (looked.Deep s f note) x y = false
+is_pair (looked.Deep s f note) r x y = false
 
--- what a test says
+-- two variables that are equal, and two that differ
+abbrev pub equal_shows : Looked → Looked → Fact → Bool
+equal_shows r q (Ready x) = false
+equal_shows r q (Full x) = false
+equal_shows r q (Filled j) = false
+equal_shows r q (Equal x y) = is_pair r q x y
+equal_shows r q (Apart x y) = false
+
+abbrev pub differ_shows : Looked → Looked → Fact → Bool
+differ_shows r q (Ready x) = false
+differ_shows r q (Full x) = false
+differ_shows r q (Filled j) = false
+differ_shows r q (Equal x y) = false
+differ_shows r q (Apart x y) = is_pair r q x y
+
+-- what a test says; a variable that isn't null holds an object, as one that is followed
 abbrev pub saying_shows : Names → Saying → Fact → Bool
 saying_shows n (IsNull x) f = null_shows n x f
-saying_shows n (IsntNull x) (Full y) = x == y
-saying_shows n (AreEqual r q) (Equal x y) = is_pair r q x y
-saying_shows n (Differ r q) (Apart x y) = is_pair r q x y
-saying_shows n s _ = false
+saying_shows n (IsntNull x) f = follow_shows x f
+saying_shows n (AreEqual r q) f = equal_shows r q f
+saying_shows n (Differ r q) f = differ_shows r q f
 
 -- before one deed
 abbrev pub before_deed : Names → Deed → Fact → Before

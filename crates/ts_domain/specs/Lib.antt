@@ -10,11 +10,16 @@ pub mod Numbering
 pub mod Puts
 pub mod TypedGraphs
 pub mod TypedMachines
+pub mod Describing
 pub mod Views
 pub mod Truth
+pub mod Holding
 pub mod Cover
 pub mod Marks
 pub mod Aliases
 pub mod MarkWrites
 pub mod SameEntries
 pub mod Post
+pub mod FreedReads
+pub mod PeekedFrees
+pub mod Derived

@@ -32,9 +32,22 @@ abbrev pub struct_of_size : Size → Option ℕ
 struct_of_size (size.Fields s) = Some s
 struct_of_size (size.Ints count) = None
 
+abbrev pub struct_of_action : Action → Option ℕ
+struct_of_action (action.Unset x) = None
+struct_of_action (action.Assign s) = None
+struct_of_action (action.Malloc place s at) = struct_of_size s
+struct_of_action (action.Getchar place) = None
+struct_of_action (action.Putchar e) = None
+struct_of_action (action.Printf text es) = None
+struct_of_action (action.Test e) = None
+struct_of_action (action.Call f es) = None
+struct_of_action (action.Return e) = None
+struct_of_action action.Close = None
+
 abbrev pub struct_of_kind : NodeKind → Option ℕ
-struct_of_kind (kind.Act (action.Malloc place s at)) = struct_of_size s
-struct_of_kind _ = None
+struct_of_kind (kind.Gap number frees) = None
+struct_of_kind (kind.Act a) = struct_of_action a
+struct_of_kind (kind.Exit offset) = None
 
 -- the struct of the objects of a site, by its place among the sites
 abbrev pub struct_of : Names → Graph → ℕ → Option ℕ

@@ -1,5 +1,5 @@
 -- What deeds mean for a machine: what its pointer variables and pointer cells hold, and what one deed makes of that.
-use Rattle.std.specs.Prelude.{◌≡◌, ℕ, ◌-◌, ◌==◌, ◌&&◌, nat_lt, Bool, true, false, List, [], ◌∷◌, ◌++◌, length, slice_get, Option, None, Some, if◌then◌else◌}
+use Rattle.std.specs.Prelude.{◌≡◌, ℕ, ◌+◌, ◌-◌, ◌==◌, ◌&&◌, nat_lt, Bool, true, false, List, [], ◌∷◌, ◌++◌, length, slice_get, Option, None, Some, if◌then◌else◌}
 use Rattle.std.specs.Option.{option_and_then}
 use Rattle.c_tree.specs.declared.program.Program.{Program}
 use Rattle.c_tree.specs.declared.program.Size.{Size}
@@ -160,11 +160,11 @@ module _ (n : Names) (g : Graph) (sites : List ℕ) where
   LooksAt s (looked.Name k) c = peek n s.view k ≡ c
   LooksAt s (looked.Deep t f note) c = (slice_get s.found note ≡ Some c) × Finds s.view (read.Deep t f) c
 
-  -- what a write takes; a content that is copied was read, so it is not indeterminate
+  -- what a write takes; a content that is copied was read, so it is not indeterminate; a new object is the last of all
   abbrev pub Gives : Seen → Source → Value → Type 0
   Gives s (source.Content l) c = LooksAt s l c × (c ≡ value.Undef → ⊥)
   Gives s source.Null c = c ≡ value.Null
-  Gives s (source.New site) c = (o : ℕ) × (v : ℕ) × (c ≡ value.Ptr o) × (slice_get n.sites site ≡ Some v) × (slice_get sites o ≡ Some v) × IsFresh s.view o
+  Gives s (source.New site) c = (o : ℕ) × (v : ℕ) × (c ≡ value.Ptr o) × (slice_get n.sites site ≡ Some v) × (slice_get sites o ≡ Some v) × IsFresh s.view o × (length sites ≡ o + 1)
   Gives s source.Undef c = c ≡ value.Undef
 
   -- what a test says is so (6.5.9)

@@ -40,7 +40,8 @@ pub fn type_of(names: &Names, variable: usize) -> Option<Ty>
     }
 }
 
-fn field_type(names: &Names, of: usize, field: usize) -> Option<Ty>
+/// The type of a field of a struct.
+pub fn field_type(names: &Names, of: usize, field: usize) -> Option<Ty>
     ensures { result ≡ field_type names.now of field }
 {
     match names.structs.get(of) {

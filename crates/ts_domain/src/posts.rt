@@ -1,8 +1,11 @@
 // What becomes of marks over an edge, and the marks of new objects.
-ghost use Rattle.std.specs.Prelude.{◌≡◌, [], ◌∷◌, false, true, map, Err, IfOk};
+ghost use Rattle.std.specs.Prelude.{◌≡◌, ◌≢◌, [], ◌∷◌, false, true, map, option_map, Err, IfOk};
+ghost use Rattle.std.specs.List.{AllPairs};
 ghost use Rattle.ts_domain.specs.Marks.{knowledge, step};
+ghost use Rattle.ts_domain.specs.MarkWrites.{birth};
 ghost use Rattle.ts_domain.specs.Post.{at_edge, born, deeds_post, first_entry, is_gap, is_wide, is_wide_edge, leaves_gap, made_site, post, step_of};
 ghost use Rattle.ts_domain.specs.Deeds.{site_of};
+ghost use Rattle.ts_domain.specs.Describing.{BornDescribes, DescribeAfter, TouchWhereMet};
 
 use crate::deed::Deed;
 use crate::entry::Entry;
@@ -94,6 +97,9 @@ pub fn post(
     edge: &Edge,
 ) -> Result<SmallVec<Step, 4>, Refusal>
     ensures ok { IfOk result (λ steps. steps.items ≡ post names.now graph.now facts.now edge.now mark.now) }
+    ensures after { IfOk result (λ steps. DescribeAfter names.now graph.now facts.now edge.now mark.now steps.items) }
+    ensures met { IfOk result (λ steps. TouchWhereMet names.now graph.now facts.now edge.now mark.now steps.items) }
+    ensures once { IfOk result (λ steps. AllPairs (λ s t. s ≢ t) steps.items) }
     ensures narrow { IfOk result (λ steps. is_wide_edge names.now graph.now facts.now edge.now mark.now ≡ false) }
     ensures only { (l : Limit) → result ≡ Err (Refusal.Limit l) → l ≡ Limit.States }
     ensures limit { result ≡ Err (Refusal.Limit Limit.States) → is_wide_edge names.now graph.now facts.now edge.now mark.now ≡ true }
@@ -118,11 +124,11 @@ fn site_of(names: &Names, node: usize) -> Option<usize>
     names.sites.as_slice().iter().position(|site| *site == node)
 }
 
-fn made_site(names: &Names, edge: Edge) -> Option<usize>
-    ensures { result ≡ made_site (site_of names.now edge.from) edge.way }
+fn made_site(names: &Names, node: usize, way: Way) -> Option<usize>
+    ensures { result ≡ made_site (site_of names.now node) way }
 {
-    match edge.way {
-        Way::Made => site_of(names, edge.from),
+    match way {
+        Way::Made => site_of(names, node),
         Way::On => None,
         Way::True => None,
         Way::False => None,
@@ -130,6 +136,22 @@ fn made_site(names: &Names, edge: Edge) -> Option<usize>
         Way::Enter => None,
         Way::Leave(_) => None,
     }
+}
+
+/// The mark of the object that deeds make over such a way on from a node; `None` where they make none.
+pub fn deeds_born(
+    alloc: Global,
+    known: Known,
+    deeds: &[Deed],
+    way: Way,
+) -> Result<Option<Mark>, Memory>
+    ensures { IfOk result (λ m. m ≡ option_map (birth (knowledge known.entry) deeds.now) (made_site (site_of known.entry.names.now known.entry.node) way)) }
+{
+    let Some(site) = made_site(known.names, known.node, way) else {
+        return Ok(None);
+    };
+    let mark = birth(alloc, known, deeds, site)?;
+    Ok(Some(mark))
 }
 
 /// The mark, behind an edge, of the object that it makes; `None` where it makes none.
@@ -140,9 +162,10 @@ pub fn born(
     facts: &Facts,
     edge: &Edge,
 ) -> Result<Option<Mark>, Memory>
-    ensures { IfOk result (λ m. m ≡ born names.now graph.now facts.now edge.now) }
+    ensures exact { IfOk result (λ m. m ≡ born names.now graph.now facts.now edge.now) }
+    ensures object { IfOk result (BornDescribes names.now graph.now facts.now edge.now) }
 {
-    let Some(site) = made_site(names, *edge) else {
+    let Some(site) = made_site(names, edge.from, edge.way) else {
         return Ok(None);
     };
     let known = Known {

@@ -4,7 +4,7 @@ ghost use Rattle.std.specs.Option.{option_and_then};
 ghost use Rattle.c_graph.specs.declared.graph.Node.{Node};
 ghost use Rattle.mf_set.specs.Numbers.{has};
 ghost use Rattle.ts_domain.specs.Marks.{field_at, flows, knowledge, makes_struct, meets, shares, sites_to, some_beyond, some_in_field, some_in_name};
-ghost use Rattle.ts_domain.specs.May.{flows_to, struct_of, struct_of_kind, struct_of_size};
+ghost use Rattle.ts_domain.specs.May.{flows_to, struct_of, struct_of_action, struct_of_kind, struct_of_size};
 
 use crate::facts::May;
 use crate::known::Known;
@@ -23,7 +23,7 @@ fn struct_of_size(size: &Size) -> Option<usize>
 }
 
 fn struct_made(action: &Action) -> Option<usize>
-    ensures { result ≡ struct_of_kind (NodeKind.Act action.now) }
+    ensures { result ≡ struct_of_action action.now }
 {
     match action {
         Action::Malloc(_, size, _) => struct_of_size(size),
@@ -58,7 +58,8 @@ fn struct_at(graph: &Graph, node: usize) -> Option<usize>
     }
 }
 
-fn struct_of(graph: &Graph, names: &Names, site: usize) -> Option<usize>
+/// The struct of the objects of a site, if it makes one.
+pub fn struct_of(graph: &Graph, names: &Names, site: usize) -> Option<usize>
     ensures { result ≡ struct_of names.now graph.now site }
 {
     match names.sites.get(site) {

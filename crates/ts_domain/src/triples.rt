@@ -4,7 +4,7 @@ use mf_list::Seq;
 use mf_set::BitSet;
 
 /// A mark at a node, with the puts that may have freed its object.
-#[derive(Debug, Drop)]
+#[derive(Debug, Drop, PartialEq, Eq, Hash)]
 pub struct Triple {
     pub node: usize,
     pub mark: Mark,
