@@ -1,6 +1,7 @@
 // All that flows, by the writes of all edges.
 ghost use Rattle.std.specs.Prelude.{◌≡◌, IfOk};
 ghost use Rattle.std.specs.List.{All};
+ghost use Rattle.ts_domain.specs.Holding.{IsMayOfRuns};
 ghost use Rattle.ts_domain.specs.May.{IsDone, IsMay};
 ghost use Rattle.alias_facts.specs.Writes.{all_writes};
 ghost use Rattle.alias_facts.specs.Writing.{Ended};
@@ -35,7 +36,8 @@ fn all_writes(alloc: Global, graph: &Graph, names: &Names) -> Result<Seq<Deed>, 
 
 /// The sites that flow to each pointer variable and to each field of a site; fields to which none flows are left out.
 pub fn may(alloc: Global, graph: &Graph, names: &Names) -> Result<May, Memory>
-    ensures { IfOk result (IsMay names.now graph.now) }
+    ensures exact { IfOk result (IsMay names.now graph.now) }
+    ensures runs { IfOk result (IsMayOfRuns names.now graph.now) }
 {
     let writes = all_writes(alloc, graph, names)?;
     let table = table_of(alloc, graph, names, writes.as_slice())?;

@@ -3,7 +3,7 @@ ghost use Rattle.std.specs.Prelude.{◌≡◌, ◌++◌, [], ◌∷◌, ◌<◌,
 ghost use Rattle.std.specs.Option.{option_and_then, option_copied};
 ghost use Rattle.mf_set.specs.Numbers.{has};
 ghost use Rattle.c_graph.specs.declared.graph.Node.{Node};
-ghost use Rattle.ts_domain.specs.May.{read_of, struct_of, struct_of_kind, struct_of_size};
+ghost use Rattle.ts_domain.specs.May.{read_of, struct_of, struct_of_action, struct_of_kind, struct_of_size};
 ghost use Rattle.alias_facts.specs.Flow.{cell_at, cell_items, in_cells, in_field, in_found, in_source, is_of_struct, sites_of_struct, var_items};
 ghost use Rattle.alias_facts.specs.Growth.{Adds, IsFound, IsSized, SourceFits};
 
@@ -25,7 +25,7 @@ fn struct_of_size(size: &Size) -> Option<usize>
 }
 
 fn struct_made(action: &Action) -> Option<usize>
-    ensures { result ≡ struct_of_kind (NodeKind.Act action.now) }
+    ensures { result ≡ struct_of_action action.now }
 {
     match action {
         Action::Malloc(_, size, _) => struct_of_size(size),

@@ -1,7 +1,7 @@
 -- Facts of a set that are set anew, one behind another.
-use Rattle.std.proofs.Common.{◌≡◌, ◌≢◌, ℕ, zero, suc, ◌+◌, ◌-◌, ◌<◌, ◌≤◌, ◌==◌, ◌&&◌, ◌||◌, ◌⊎◌, inl, inr, ⊎_elim, Bool, true, false, not, cond, nat_lt, eqb, ltb, List, length, slice_get, Option, None, Some, refl, ap, sym, ◌∙◌, subst, arith}
+use Rattle.std.proofs.Common.{◌≡◌, ◌≢◌, ℕ, ◌+◌, ◌-◌, ◌<◌, ◌≤◌, ◌==◌, ◌&&◌, ◌||◌, ◌⊎◌, inl, inr, ⊎_elim, Bool, true, false, not, cond, nat_lt, eqb, ltb, length, slice_get, refl, ap, sym, ◌∙◌, arith}
 use Rattle.std.proofs.lemmas.Bool.{true≢false, false≢true, eqb-true, eq-eqb, ne_eqb, ltb-true, lt-ltb, or_cases, and_parts, and_from, cases_eq, or_left, or_right}
-use Rattle.mf_set.specs.Numbers.{Numbers, has as has_number, with_number, without_number}
+use Rattle.mf_set.specs.Numbers.{Numbers, has as has_number}
 use Rattle.mf_set.proofs.NumberLaws.{has-with_number, has-without_number}
 use Rattle.ts_domain.specs.declared.fact.Fact.{Fact}
 use Rattle.ts_domain.specs.declared.fact.Fact.TheVariants.{Ready, Full, Filled, Equal, Apart}
@@ -114,7 +114,7 @@ pairs_next x i (Ready y) t = absurd (false≢true t)
 pairs_next x i (Full y) t = absurd (false≢true t)
 pairs_next x i (Filled j) t = absurd (false≢true t)
 
-no_pair : (x y z : ℕ) → ((x == y && nat_lt z 0) || (x == z && nat_lt y 0)) ≡ true → ⊥
+pub no_pair : (x y z : ℕ) → ((x == y && nat_lt z 0) || (x == z && nat_lt y 0)) ≡ true → ⊥
 no_pair x y z t =
     ⊎_elim (λ h. let l : z < 0 = ltb-true z 0 (and_parts (x == y) (nat_lt z 0) h).1 in omega (arith, l)) (λ h. let l : y < 0 = ltb-true y 0 (and_parts (x == z) (nat_lt y 0) h).1 in omega (arith, l))
     (or_cases (x == y && nat_lt z 0) (x == z && nat_lt y 0) t)
@@ -127,7 +127,7 @@ pairs_none x (Full y) t = false≢true t
 pairs_none x (Filled j) t = false≢true t
 
 -- two variables in their order
-in_order : (kind : ℕ → ℕ → Fact) (x y u v : ℕ) → u < v → ((x == u && y == v) || (x == v && y == u)) ≡ true → kind u v ≡ cond (nat_lt x y) (kind x y) (kind y x)
+pub in_order : (kind : ℕ → ℕ → Fact) (x y u v : ℕ) → u < v → ((x == u && y == v) || (x == v && y == u)) ≡ true → kind u v ≡ cond (nat_lt x y) (kind x y) (kind y x)
 in_order kind x y u v l t =
     ⊎_elim
     (λ h.
@@ -153,7 +153,7 @@ two_are n x y (Full z) h t = absurd (false≢true t)
 two_are n x y (Filled j) h t = absurd (false≢true t)
 
 -- both exist and differ
-both_exist : (m x y u v : ℕ) → u < v → v < m → ((x == u && y == v) || (x == v && y == u)) ≡ true → (x < m) × ((y < m) × (x ≢ y))
+pub both_exist : (m x y u v : ℕ) → u < v → v < m → ((x == u && y == v) || (x == v && y == u)) ≡ true → (x < m) × ((y < m) × (x ≢ y))
 both_exist m x y u v l k t =
     ⊎_elim
     (λ h.

@@ -1,6 +1,6 @@
 -- What has to hold before deeds: it is a fact that exists, and a fact of which a deed doesn't speak is its own.
-use Rattle.std.proofs.Common.{◌≡◌, ◌≢◌, ℕ, zero, suc, ◌+◌, ◌-◌, ◌<◌, ◌≤◌, ◌==◌, ◌&&◌, ◌||◌, ◌⊎◌, inl, inr, ⊎_elim, Bool, true, false, not, cond, nat_lt, eqb, ltb, List, [], ◌∷◌, ◌++◌, length, take, get_or, slice_get, Option, None, Some, refl, ap, sym, ◌∙◌, subst, arith}
-use Rattle.std.proofs.lemmas.Bool.{true≢false, false≢true, eqb-true, eq-eqb, ne_eqb, ltb-true, ltb-false, lt-ltb, or_cases, and_parts, and_from, cases_eq, cases_Bool, or_left, or_right}
+use Rattle.std.proofs.Common.{◌≡◌, ◌≢◌, ℕ, ◌+◌, ◌-◌, ◌<◌, ◌≤◌, ◌==◌, ◌&&◌, ◌||◌, ◌⊎◌, inl, inr, ⊎_elim, Bool, true, false, cond, nat_lt, ltb, List, [], ◌∷◌, ◌++◌, length, take, get_or, slice_get, Option, None, Some, refl, ap, sym, ◌∙◌, arith}
+use Rattle.std.proofs.lemmas.Bool.{true≢false, false≢true, eq-eqb, ne_eqb, ltb-true, ltb-false, lt-ltb, or_cases, and_parts, and_from, cases_eq, cases_Bool, or_left, or_right}
 use Rattle.std.proofs.lemmas.List.{take_more}
 use Rattle.std.specs.List.{position}
 use Rattle.std.proofs.lemmas.List.Quantifiers.{position-Some}
@@ -11,21 +11,16 @@ use Rattle.ts_domain.specs.declared.before.Given.{Given}
 use Rattle.ts_domain.specs.declared.before.Given.TheVariants.{Copied, Loaded, Nothing, Fresh, Unset}
 use Rattle.ts_domain.specs.declared.deed.Deed.{Deed}
 use Rattle.ts_domain.specs.declared.deed.Deed.TheVariants.{Reads, Follows, Says, Sets, SetsField}
-use Rattle.ts_domain.specs.declared.deed.Looked.{Looked}
 use Rattle.ts_domain.specs.declared.deed.Looked.TheVariants as looked
-use Rattle.ts_domain.specs.declared.deed.Saying.{Saying}
-use Rattle.ts_domain.specs.declared.deed.Saying.TheVariants.{IsNull, IsntNull, AreEqual, Differ}
 use Rattle.ts_domain.specs.declared.deed.Source.{Source}
 use Rattle.ts_domain.specs.declared.deed.Source.TheVariants.{Content, Null, New, Undef}
 use Rattle.ts_domain.specs.declared.fact.Fact.{Fact}
 use Rattle.ts_domain.specs.declared.fact.Fact.TheVariants.{Ready, Full, Filled, Equal, Apart}
 use Rattle.ts_domain.specs.declared.names.Names.{Names}
-use Rattle.ts_domain.specs.declared.names.Read.{Read}
-use Rattle.ts_domain.specs.declared.names.Read.TheVariants as read
-use Rattle.ts_domain.specs.Facts.{apart, apart_of, apart_pair, before_deed, before_deeds, before_given, before_set, before_with, equal, equal_of, equal_pair, filled, filled_by, filled_of, follow_shows, full_of, given, given_read, is_fact, is_field_of, is_itself, is_pair, null_shows, other_of, owns_field, pair_of, read_shows, ready_of, saying_shows, shown, write_shows}
+use Rattle.ts_domain.specs.Facts.{apart_of, apart_pair, before_deed, before_deeds, before_given, before_with, equal_of, equal_pair, filled, filled_by, filled_of, follow_shows, full_of, given, is_fact, is_itself, other_of, owns_field, pair_of, read_shows, ready_of, saying_shows, shown, write_shows}
 use Rattle.ts_domain.specs.Pointers.{field_place}
-use Rattle.path_facts.specs.Corrections.{Carries, Corrects, IsOfVariable, IsSaid, IsTold, is_compared, is_of_base, is_of_field, is_of_name, is_of_pair, is_of_read, is_of_two, right_behind}
-use Rattle.path_facts.specs.Numbering.{holds, holds_before, is_known}
+use Rattle.path_facts.specs.Corrections.{Carries, Corrects, IsOfVariable, right_set}
+use Rattle.path_facts.specs.Numbering.{holds_before, is_known}
 
 -- facts that exist
 
@@ -63,7 +58,7 @@ GivenExists n Nothing = Unit {0}
 GivenExists n Fresh = Unit {0}
 GivenExists n Unset = Unit {0}
 
-given_exists : (n : Names) (v : Source) → GivenExists n (given n v)
+pub given_exists : (n : Names) (v : Source) → GivenExists n (given n v)
 given_exists n (Content (looked.Name k)) = elim (ltb k (length n.vars)) as (λ b. ltb k (length n.vars) ≡ b → GivenExists n (cond b (Copied k) Loaded)) [ true ↦ λ e. ltb-true k (length n.vars) e | false ↦ λ e. tt ] refl
 given_exists n (Content (looked.Deep s f note)) = tt
 given_exists n Null = tt
@@ -121,7 +116,7 @@ of_pair_known n f about x y z is h k = by (x == y) (x == z)
     by false true = h
     by false false = is
 
-given_known : (n : Names) (x : ℕ) (v : Given) (f : Fact) → GivenExists n v → is_fact n f ≡ true → is_known n (before_given n x v f) ≡ true
+pub given_known : (n : Names) (x : ℕ) (v : Given) (f : Fact) → GivenExists n v → is_fact n f ≡ true → is_known n (before_given n x v f) ≡ true
 given_known n x v (Ready y) h is = known_if n (x == y) (ready_of v) (Where (Ready y)) (ready_known n v) is
 given_known n x v (Full y) h is = known_if n (x == y) (full_of v) (Where (Full y)) (full_known n v h) is
 given_known n x v (Filled j) h is = by_field_known n (Filled j) (λ f. filled_of n f v) x (slice_get n.fields j) is (λ f. filled_known n f v)
@@ -152,11 +147,7 @@ pub deeds_known : (n : Names) (ds : List Deed) (f : Fact) → is_fact n f ≡ tr
 deeds_known n [] f h = h
 deeds_known n (d ∷ ds) f h = with_known n d (before_deeds n ds f) (deeds_known n ds f h)
 
--- facts of which a deed speaks
-
-shown_own : (b : Bool) (f : Fact) → (shown b f ≡ Where f) ⊎ (b ≡ true)
-shown_own true f = inr refl
-shown_own false f = inl refl
+-- facts of which a write speaks
 
 if_own : (b : Bool) (p : Before) (f : Fact) → (cond b p (Where f) ≡ Where f) ⊎ (b ≡ true)
 if_own true p f = inr refl
@@ -187,11 +178,6 @@ or_told : {P A B : Type 0} → P ⊎ A → (A → B) → P ⊎ B
 or_told (inl p) f = inl p
 or_told (inr a) f = inr (f a)
 
--- the same content changes nothing
-itself_own : {T : Type 0} (b : Bool) (p : Before) (f : Fact) → (p ≡ Where f) ⊎ T → (cond b (Where f) p ≡ Where f) ⊎ T
-itself_own true p f h = inl refl
-itself_own false p f h = h
-
 given_own : (n : Names) (x : ℕ) (v : Given) (f : Fact) → is_fact n f ≡ true → (before_given n x v f ≡ Where f) ⊎ IsOfVariable n x f
 given_own n x v (Ready y) h = or_told (if_own (x == y) (ready_of v) (Ready y)) (λ e. inl e)
 given_own n x v (Full y) h = or_told (if_own (x == y) (full_of v) (Full y)) (λ e. inl e)
@@ -199,95 +185,27 @@ given_own n x v (Filled j) h = or_told (field_own (Filled j) (λ f. filled_of n 
 given_own n x v (Equal y z) h = or_told (pair_own (Equal y z) (λ o. equal_of o v) x y z) (λ e. inr (inr (of_pair (length n.vars) x y z h e)))
 given_own n x v (Apart y z) h = or_told (pair_own (Apart y z) (λ o. apart_of o v) x y z) (λ e. inr (inr (of_pair (length n.vars) x y z h e)))
 
-read_own : (n : Names) (r : Read) (f : Fact) → (shown (read_shows n r f) f ≡ Where f) ⊎ (is_of_read n r f ≡ true)
-read_own n (read.Name k) (Ready x) = shown_own (k == x) (Ready x)
-read_own n (read.Name k) (Full x) = inl refl
-read_own n (read.Name k) (Filled j) = shown_own (k == length n.vars + j) (Filled j)
-read_own n (read.Name k) (Equal x y) = inl refl
-read_own n (read.Name k) (Apart x y) = inl refl
-read_own n (read.Deep s g) (Ready x) = inl refl
-read_own n (read.Deep s g) (Full x) = inl refl
-read_own n (read.Deep s g) (Filled j) = inl refl
-read_own n (read.Deep s g) (Equal x y) = inl refl
-read_own n (read.Deep s g) (Apart x y) = inl refl
-
-follow_own : (n : Names) (k : ℕ) (f : Fact) → (shown (follow_shows k f) f ≡ Where f) ⊎ (is_of_name n k f ≡ true)
-follow_own n k (Ready x) = inl refl
-follow_own n k (Full x) = shown_own (k == x) (Full x)
-follow_own n k (Filled j) = inl refl
-follow_own n k (Equal x y) = inl refl
-follow_own n k (Apart x y) = inl refl
-
-null_own : (n : Names) (x : ℕ) (f : Fact) → is_fact n f ≡ true → (shown (null_shows n x f) f ≡ Where f) ⊎ IsOfVariable n x f
-null_own n x (Ready y) h = inl refl
-null_own n x (Full y) h = inl refl
-null_own n x (Filled j) h = or_told (shown_own (owns_field x (slice_get n.fields j)) (Filled j)) (λ e. inr (inl (and_from (nat_lt j (length n.fields)) (owns_field x (slice_get n.fields j)) h e)))
-null_own n x (Equal y z) h = inl refl
-null_own n x (Apart y z) h = or_told (shown_own (x == y || x == z) (Apart y z)) (λ e. inr (inr (of_pair (length n.vars) x y z h e)))
-
-not_null_own : (n : Names) (x : ℕ) (f : Fact) → (shown (saying_shows n (IsntNull x) f) f ≡ Where f) ⊎ (is_of_name n x f ≡ true)
-not_null_own n x (Ready y) = inl refl
-not_null_own n x (Full y) = shown_own (x == y) (Full y)
-not_null_own n x (Filled j) = inl refl
-not_null_own n x (Equal y z) = inl refl
-not_null_own n x (Apart y z) = inl refl
-
-equal_own : (l r : Looked) (f : Fact) (x y : ℕ) → ((k m : ℕ) → is_of_two k m f ≡ ((k == x && m == y) || (k == y && m == x))) → (shown (is_pair l r x y) f ≡ Where f) ⊎ (is_compared l r f ≡ true)
-equal_own (looked.Name k) (looked.Name m) f x y is = or_told (shown_own ((k == x && m == y) || (k == y && m == x)) f) (λ e. is k m ∙ e)
-equal_own (looked.Name k) (looked.Deep s g note) f x y is = inl refl
-equal_own (looked.Deep s g note) (looked.Name m) f x y is = inl refl
-equal_own (looked.Deep s g note) (looked.Deep t h note') f x y is = inl refl
-
-said_equal : (n : Names) (l r : Looked) (f : Fact) → (shown (saying_shows n (AreEqual l r) f) f ≡ Where f) ⊎ (is_compared l r f ≡ true)
-said_equal n l r (Ready y) = inl refl
-said_equal n l r (Full y) = inl refl
-said_equal n l r (Filled j) = inl refl
-said_equal n l r (Equal x y) = equal_own l r (Equal x y) x y (λ k m. refl)
-said_equal n l r (Apart y z) = inl refl
-
-said_differ : (n : Names) (l r : Looked) (f : Fact) → (shown (saying_shows n (Differ l r) f) f ≡ Where f) ⊎ (is_compared l r f ≡ true)
-said_differ n l r (Ready y) = inl refl
-said_differ n l r (Full y) = inl refl
-said_differ n l r (Filled j) = inl refl
-said_differ n l r (Equal y z) = inl refl
-said_differ n l r (Apart x y) = equal_own l r (Apart x y) x y (λ k m. refl)
-
-said_own : (n : Names) (s : Saying) (f : Fact) → is_fact n f ≡ true → (shown (saying_shows n s f) f ≡ Where f) ⊎ IsSaid n s f
-said_own n (IsNull x) f h = null_own n x f h
-said_own n (IsntNull x) f h = not_null_own n x f
-said_own n (AreEqual l r) f h = said_equal n l r f
-said_own n (Differ l r) f h = said_differ n l r f
-
-owner_of : (x g : ℕ) (o : Option (ℕ × ℕ)) → is_field_of x g o ≡ true → owns_field x o ≡ true
-owner_of x g None t = t
-owner_of x g (Some p) t = (and_parts (p.0 == x) (p.1 == g) t).0
-
-base_own : (n : Names) (r : Read) (g : ℕ) (f : Fact) → is_fact n f ≡ true → (shown (write_shows n r g f) f ≡ Where f) ⊎ (is_of_base n r f ≡ true)
-base_own n (read.Name x) g (Ready y) h = inl refl
-base_own n (read.Name x) g (Full y) h = inl refl
-base_own n (read.Name x) g (Filled j) h = or_told (shown_own (is_field_of x g (slice_get n.fields j)) (Filled j)) (λ e. and_from (nat_lt j (length n.fields)) (owns_field x (slice_get n.fields j)) h (owner_of x g (slice_get n.fields j) e))
-base_own n (read.Name x) g (Equal y z) h = inl refl
-base_own n (read.Name x) g (Apart y z) h = inl refl
-base_own n (read.Deep s t) g (Ready y) h = inl refl
-base_own n (read.Deep s t) g (Full y) h = inl refl
-base_own n (read.Deep s t) g (Filled j) h = inl refl
-base_own n (read.Deep s t) g (Equal y z) h = inl refl
-base_own n (read.Deep s t) g (Apart y z) h = inl refl
-
-pub deed_own : (n : Names) (d : Deed) (f : Fact) → is_fact n f ≡ true → (before_deed n d f ≡ Where f) ⊎ IsTold n d f
-deed_own n (Reads r noted) f h = read_own n r f
-deed_own n (Follows x) f h = follow_own n x f
-deed_own n (Says s) f h = said_own n s f h
-deed_own n (Sets x v) f h = itself_own (is_itself x (given n v)) (before_given n x (given n v) f) f (given_own n x (given n v) f h)
-deed_own n (SetsField r s g v) f h = base_own n r g f h
-
 -- sets over deeds
 
-pub carries_deed : (n : Names) (d : Deed) (old new : Numbers) → Corrects n (right_behind n d old) (IsTold n d) old new → Carries n (before_deed n d) old new
-carries_deed n d old new is = record {
+if_false : (b : Bool) (p q : Before) → b ≡ false → cond b p q ≡ q
+if_false true p q h = absurd (true≢false h)
+if_false false p q h = refl
+
+if_true : (b : Bool) (p q : Before) → b ≡ true → cond b p q ≡ p
+if_true true p q h = refl
+if_true false p q h = absurd (false≢true h)
+
+-- over a write to a variable, and over one of its own content
+pub carries_write : (n : Names) (x : ℕ) (v : Source) (old new : Numbers) → is_itself x (given n v) ≡ false → Corrects n (right_set n x v old) (IsOfVariable n x) old new → Carries n (before_deed n (Sets x v)) old new
+carries_write n x v old new isnt is = record {
   room = is.room;
-  facts = λ f h. ⊎_elim (λ own. ⊎_elim (λ e. e) (λ e. e ∙ ap (holds_before n old) (sym own)) (is.each f h)) (λ told. is.done f h told) (deed_own n d f h);
+  facts = λ f h.
+      ⊎_elim (λ own. ⊎_elim (λ e. e) (λ e. e ∙ ap (holds_before n old) (sym own)) (is.each f h)) (λ told. is.done f h told) (given_own n x (given n v) f h)
+      ∙ ap (holds_before n old) (sym (if_false (is_itself x (given n v)) (Where f) (before_given n x (given n v) f) isnt));
 }
+
+pub carries_itself : (n : Names) (x : ℕ) (v : Source) (s : Numbers) → is_itself x (given n v) ≡ true → Carries n (before_deed n (Sets x v)) s s
+carries_itself n x v s is = record { room = refl; facts = λ f h. ap (holds_before n s) (sym (if_true (is_itself x (given n v)) (Where f) (before_given n x (given n v) f) is)) }
 
 with_with : (p q : Fact → Before) (b : Before) → before_with p (before_with q b) ≡ before_with (λ f. before_with p (q f)) b
 with_with p q Always = refl

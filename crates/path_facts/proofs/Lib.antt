@@ -3,6 +3,7 @@ pub mod DeedLaws
 pub mod FactNumbers
 pub mod NumberingLaws
 pub mod PathLaws
+pub mod ShowLaws
 pub mod SolvedLaws
 pub mod StartLaws
 pub mod StepLaws

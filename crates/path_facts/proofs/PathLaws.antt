@@ -1,7 +1,7 @@
 -- From the sets that nodes begin with to the facts of paths.
-use Rattle.std.proofs.Common.{◌≡◌, ◌≢◌, ℕ, zero, suc, ◌+◌, ◌<◌, ◌≤◌, ◌==◌, ◌⊎◌, inl, inr, ⊎_elim, Bool, true, false, eqb, List, [], ◌∷◌, ◌++◌, length, take, slice_get, get_or, Option, None, Some, refl, ap, sym, ◌∙◌, subst, arith, Result, Ok, Err}
+use Rattle.std.proofs.Common.{◌≡◌, ◌≢◌, ℕ, zero, suc, ◌+◌, ◌<◌, ◌≤◌, ◌⊎◌, inl, inr, ⊎_elim, true, false, eqb, List, [], ◌∷◌, ◌++◌, length, take, slice_get, get_or, Some, refl, ap, sym, ◌∙◌, subst, arith, Result, Ok, Err}
 use Rattle.std.specs.Prelude.{IfOk}
-use Rattle.std.proofs.lemmas.Bool.{true≢false, false≢true, eqb-true, eq-eqb, or_cases, or_left, cases_eq}
+use Rattle.std.proofs.lemmas.Bool.{true≢false, false≢true, eqb-true, or_cases, cases_eq}
 use Rattle.std.proofs.lemmas.List.{length-append, length-take-le}
 use Rattle.std.proofs.lemmas.Option.{slice_get-get_or, slice_get_within}
 use Rattle.c_tree.specs.Typing.{has}
@@ -12,7 +12,7 @@ use Rattle.ts_domain.specs.declared.fact.Fact.{Fact}
 use Rattle.ts_domain.specs.declared.facts.Path.{Path}
 use Rattle.ts_domain.specs.declared.names.Names.{Names}
 use Rattle.ts_domain.specs.Facts.{fact_count, is_fact, number_of}
-use Rattle.ts_domain.specs.Path.{Fails, IsPath, Reached, here, holds_at, starts, true_at_start}
+use Rattle.ts_domain.specs.Path.{Fails, IsPath, Reached, here, holds_at, starts}
 use Rattle.path_facts.specs.declared.worklist.Solving.{Solving}
 use Rattle.path_facts.specs.declared.numbering.Numbering.{Numbering}
 use Rattle.path_facts.specs.Numbering.{IsNumbering, holds, room_of}

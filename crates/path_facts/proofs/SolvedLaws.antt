@@ -1,18 +1,16 @@
 -- Where all edges are settled, the sets have what doesn't fail and nothing else.
-use Rattle.std.proofs.Common.{◌≡◌, ℕ, ◌<◌, ◌≤◌, ⊎_elim, Bool, true, false, List, [], length, take, slice_get, get_or, Option, Some, refl, ap, sym, ◌∙◌, subst, arith}
-use Rattle.std.proofs.lemmas.Bool.{true≢false, false≢true}
+use Rattle.std.proofs.Common.{◌≡◌, ℕ, ⊎_elim, true, false, [], length, slice_get, get_or, Some, ap, sym, ◌∙◌}
+use Rattle.std.proofs.lemmas.Bool.{false≢true}
 use Rattle.std.proofs.lemmas.Option.{slice_get-get_or}
 use Rattle.std.specs.List.{Contains}
 use Rattle.mf_set.specs.Numbers.{Numbers, has as has_number}
 use Rattle.c_graph.specs.declared.graph.Edge.{Edge}
 use Rattle.c_graph.specs.declared.graph.Graph.{Graph}
-use Rattle.ts_domain.specs.declared.before.Before.{Before}
-use Rattle.ts_domain.specs.declared.before.Before.TheVariants.{Never, Where}
 use Rattle.ts_domain.specs.declared.fact.Fact.{Fact}
 use Rattle.ts_domain.specs.declared.names.Names.{Names}
 use Rattle.ts_domain.specs.Deeds.{edge_deeds}
 use Rattle.ts_domain.specs.Facts.{is_fact}
-use Rattle.ts_domain.specs.Path.{Fails, here, along, starts, never, back, Reached, before_edge}
+use Rattle.ts_domain.specs.Path.{Fails, here, along, starts, never, back, Reached}
 use Rattle.path_facts.specs.declared.worklist.Solving.{Solving}
 use Rattle.path_facts.specs.Numbering.{holds, holds_before, is_known}
 use Rattle.path_facts.specs.Paths.{EndsWithin}

@@ -1,6 +1,6 @@
 -- The set of all facts, and of those that are true before a run.
-use Rattle.std.proofs.Common.{◌≡◌, ◌≢◌, ℕ, zero, suc, ◌+◌, ◌<◌, ◌≤◌, ◌==◌, ◌&&◌, ◌||◌, ◌⊎◌, inl, inr, ⊎_elim, Bool, true, false, nat_lt, eqb, ltb, List, length, refl, ap, sym, ◌∙◌, subst, arith}
-use Rattle.std.proofs.lemmas.Bool.{true≢false, false≢true, eqb-true, eq-eqb, ltb-true, ltb-false, lt-ltb, and_parts, and_from, cases_eq, cases_Bool, or_left, or_right}
+use Rattle.std.proofs.Common.{◌≡◌, ◌≢◌, ℕ, ◌+◌, ◌<◌, ◌==◌, ◌⊎◌, inl, inr, ⊎_elim, true, false, nat_lt, eqb, ltb, length, refl, ap, sym, ◌∙◌, arith}
+use Rattle.std.proofs.lemmas.Bool.{false≢true, eqb-true, eq-eqb, ltb-true, lt-ltb, and_parts, and_from, cases_eq, or_left, or_right}
 use Rattle.mf_set.specs.Numbers.{Numbers, has as has_number, with_number}
 use Rattle.mf_set.proofs.NumberLaws.{has-with_number}
 use Rattle.ts_domain.specs.declared.fact.Fact.{Fact}
@@ -9,7 +9,7 @@ use Rattle.ts_domain.specs.declared.names.Names.{Names}
 use Rattle.ts_domain.specs.Facts.{is_fact, number_of}
 use Rattle.ts_domain.specs.Path.{true_at_start}
 use Rattle.path_facts.specs.Corrections.{Corrects}
-use Rattle.path_facts.specs.Numbering.{holds, room_of}
+use Rattle.path_facts.specs.Numbering.{room_of}
 use Rattle.path_facts.specs.Start.{IsFull, IsStart, is_equal_of, is_started, is_started_at}
 use Rattle.path_facts.proofs.FactNumbers.{number_below}
 

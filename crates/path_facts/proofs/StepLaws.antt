@@ -1,10 +1,10 @@
 -- From one pending node to the next, and what holds when none is left.
-use Rattle.std.proofs.Common.{◌≡◌, ◌≢◌, ℕ, zero, suc, ◌+◌, ◌*◌, ◌-◌, ◌<◌, ◌≤◌, ◌==◌, ◌&&◌, ◌||◌, ◌⊎◌, inl, inr, ⊎_elim, Bool, true, false, not, cond, nat_le, eqb, leb, List, [], ◌∷◌, length, map, drop, take, slice_get, get_or, Option, None, Some, refl, ap, sym, ◌∙◌, subst, arith}
-use Rattle.std.proofs.lemmas.Bool.{true≢false, false≢true, eqb-true, eq-eqb, ne_eqb, le-leb, or_cases, and_parts, and_from, cases_eq, cases_Bool, or_left, or_right}
-use Rattle.std.proofs.lemmas.Option.{slice_get-get_or, slice_get_within, get_or_from_slice_get, slice_get-map}
+use Rattle.std.proofs.Common.{◌≡◌, ◌≢◌, ℕ, zero, suc, ◌+◌, ◌-◌, ◌<◌, ◌≤◌, ◌==◌, ◌&&◌, ◌⊎◌, inl, inr, ⊎_elim, Bool, true, false, not, cond, nat_le, eqb, leb, List, [], ◌∷◌, length, map, drop, slice_get, get_or, Option, None, Some, refl, ap, sym, ◌∙◌, subst, arith}
+use Rattle.std.proofs.lemmas.Bool.{true≢false, false≢true, eqb-true, eq-eqb, ne_eqb, le-leb, and_parts, and_from, cases_eq, cases_Bool, or_left, or_right}
+use Rattle.std.proofs.lemmas.Option.{slice_get_within, slice_get-map}
 use Rattle.std.proofs.lemmas.List.{length-map}
 use Rattle.std.proofs.Math.Seq.{drop-cons}
-use Rattle.std.specs.List.{All, Contains, filter, find, range_with_len}
+use Rattle.std.specs.List.{All, filter, find, range_with_len}
 use Rattle.std.specs.Option.{option_map}
 use Rattle.c_tree.specs.Typing.{has}
 use Rattle.mf_set.specs.Numbers.{Numbers, has as has_number, without_number}
@@ -16,7 +16,7 @@ use Rattle.ts_domain.specs.declared.names.Names.{Names}
 use Rattle.ts_domain.specs.Deeds.{edge_deeds}
 use Rattle.ts_domain.specs.Facts.{before_deeds}
 use Rattle.ts_domain.specs.Path.{before_edge}
-use Rattle.ts_domain.specs.Rows.{AreRows, is_key, places_of, row}
+use Rattle.ts_domain.specs.Rows.{AreRows, is_key, row}
 use Rattle.path_facts.specs.declared.worklist.Solving.{Solving}
 use Rattle.path_facts.specs.Paths.{BeginsAt, EndsWithin, from_of}
 use Rattle.path_facts.specs.Worklist.{Applies, Good, Passing, Steps, weight}

@@ -1,11 +1,11 @@
 -- What carrying facts over an edge keeps, and how little can still change behind it.
-use Rattle.std.proofs.Common.{◌≡◌, ◌≢◌, ◌↔◌, ℕ, zero, suc, ◌+◌, ◌*◌, ◌-◌, ◌<◌, ◌≤◌, ◌==◌, ◌&&◌, ◌||◌, ◌⊎◌, inl, inr, ⊎_elim, Bool, true, false, not, cond, nat_lt, eqb, ltb, List, [], ◌∷◌, length, set, slice_get, get_or, Option, None, Some, refl, ap, sym, ◌∙◌, subst, arith}
-use Rattle.std.proofs.lemmas.Bool.{true≢false, false≢true, eqb-true, eq-eqb, ne_eqb, ltb-true, lt-ltb, or_cases, and_parts, and_from, cases_eq, cases_Bool, or_left, or_right}
+use Rattle.std.proofs.Common.{◌≡◌, ◌≢◌, ◌↔◌, ℕ, zero, suc, ◌+◌, ◌-◌, ◌<◌, ◌≤◌, ◌==◌, ◌&&◌, ◌||◌, ◌⊎◌, inl, inr, ⊎_elim, Bool, true, false, not, cond, eqb, ltb, List, [], ◌∷◌, length, set, slice_get, get_or, Option, Some, refl, ap, sym, ◌∙◌, subst, arith}
+use Rattle.std.proofs.lemmas.Bool.{true≢false, eqb-true, eq-eqb, or_cases, cases_eq, cases_Bool, or_left, or_right}
 use Rattle.std.proofs.lemmas.List.{length-set}
 use Rattle.std.proofs.lemmas.Option.{slice_get-get_or, slice_get_within, get_or_from_slice_get}
 use Rattle.std.specs.List.{Contains, filter}
-use Rattle.mf_set.specs.Numbers.{Numbers, IsSet, has as has_number, meet, with_number, without_number}
-use Rattle.mf_set.proofs.NumberLaws.{has-meet, has-with_number, has-without_number}
+use Rattle.mf_set.specs.Numbers.{Numbers, IsSet, has as has_number, meet, with_number}
+use Rattle.mf_set.proofs.NumberLaws.{has-meet, has-with_number}
 use Rattle.mf_set.proofs.CountLaws.{length_within}
 use Rattle.c_graph.specs.declared.graph.Edge.{Edge}
 use Rattle.c_graph.specs.declared.graph.Graph.{Graph}
@@ -14,12 +14,11 @@ use Rattle.ts_domain.specs.declared.before.Before.TheVariants.{Always, Never, Wh
 use Rattle.ts_domain.specs.declared.fact.Fact.{Fact}
 use Rattle.ts_domain.specs.declared.names.Names.{Names}
 use Rattle.ts_domain.specs.Deeds.{edge_deeds}
-use Rattle.ts_domain.specs.Facts.{before_deeds, is_fact, number_of}
-use Rattle.ts_domain.specs.Path.{Fails, here, along, starts, never, back, Reached, before_edge, true_at_start}
+use Rattle.ts_domain.specs.Facts.{is_fact, number_of}
+use Rattle.ts_domain.specs.Path.{Fails, along, starts, never, back, Reached, before_edge}
 use Rattle.path_facts.specs.declared.worklist.Solving.{Solving}
-use Rattle.path_facts.specs.Corrections.{Carries}
 use Rattle.path_facts.specs.Numbering.{holds, holds_before, is_known, room_of}
-use Rattle.path_facts.specs.Worklist.{Adds, Applies, AreRooms, Good, IsSettled, IsSized, Meets, total, weight}
+use Rattle.path_facts.specs.Worklist.{Adds, Applies, Good, IsSettled, Meets, total, weight}
 use Rattle.path_facts.proofs.DeedLaws.{deeds_known}
 
 -- lists with one element set anew

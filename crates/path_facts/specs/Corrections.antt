@@ -1,20 +1,12 @@
 -- Facts of a set that are set to what they are to be, one by one.
-use Rattle.std.specs.Prelude.{◌≡◌, ◌≢◌, ◌⊎◌, ℕ, ◌+◌, ◌<◌, ◌==◌, ◌&&◌, ◌||◌, nat_lt, Bool, true, false, slice_get, length, Option, Some}
+use Rattle.std.specs.Prelude.{◌≡◌, ◌⊎◌, ℕ, ◌+◌, ◌==◌, ◌&&◌, ◌||◌, nat_lt, Bool, true, false, slice_get, length}
 use Rattle.mf_set.specs.Numbers.{Numbers}
 use Rattle.ts_domain.specs.declared.before.Before.{Before}
-use Rattle.ts_domain.specs.declared.before.Before.TheVariants.{Where}
-use Rattle.ts_domain.specs.declared.deed.Deed.{Deed}
-use Rattle.ts_domain.specs.declared.deed.Deed.TheVariants.{Reads, Follows, Says, Sets, SetsField}
-use Rattle.ts_domain.specs.declared.deed.Looked.{Looked}
-use Rattle.ts_domain.specs.declared.deed.Looked.TheVariants as looked
-use Rattle.ts_domain.specs.declared.deed.Saying.{Saying}
-use Rattle.ts_domain.specs.declared.deed.Saying.TheVariants.{IsNull, IsntNull, AreEqual, Differ}
-use Rattle.ts_domain.specs.declared.names.Read.{Read}
-use Rattle.ts_domain.specs.declared.names.Read.TheVariants as read
+use Rattle.ts_domain.specs.declared.deed.Source.{Source}
 use Rattle.ts_domain.specs.declared.fact.Fact.{Fact}
 use Rattle.ts_domain.specs.declared.fact.Fact.TheVariants.{Ready, Full, Filled, Equal, Apart}
 use Rattle.ts_domain.specs.declared.names.Names.{Names}
-use Rattle.ts_domain.specs.Facts.{before_deed, is_fact, owns_field}
+use Rattle.ts_domain.specs.Facts.{before_given, given, is_fact, owns_field}
 use Rattle.path_facts.specs.Numbering.{holds, holds_before}
 
 -- some facts are set to what they are to be; of the others each is set so too or is as before
@@ -23,9 +15,9 @@ pub record Corrects (n : Names) (right : Fact → Bool) (told : Fact → Type 0)
   pub done : (f : Fact) → is_fact n f ≡ true → told f → holds n new f ≡ right f
   pub each : (f : Fact) → is_fact n f ≡ true → (holds n new f ≡ right f) ⊎ (holds n new f ≡ holds n old f)
 
--- what is to be behind a deed, from the set before it
-abbrev pub right_behind : Names → Deed → Numbers → Fact → Bool
-right_behind n d s f = holds_before n s (before_deed n d f)
+-- what is to be behind a write to a variable, from the set before it
+abbrev pub right_set : Names → ℕ → Source → Numbers → Fact → Bool
+right_set n x v s f = holds_before n s (before_given n x (given n v) f)
 
 -- a set has a fact where what has to hold before held in another
 pub record Carries (n : Names) (before : Fact → Before) (old new : Numbers) : Type 0 where
@@ -37,55 +29,33 @@ abbrev pub is_of_name : Names → ℕ → Fact → Bool
 is_of_name n k (Ready x) = k == x
 is_of_name n k (Full x) = k == x
 is_of_name n k (Filled j) = k == length n.vars + j
-is_of_name n k _ = false
+is_of_name n k (Equal x y) = false
+is_of_name n k (Apart x y) = false
 
 -- a fact of a field of a variable, the field below some number
 abbrev pub is_of_field : Names → ℕ → ℕ → Fact → Bool
 is_of_field n x i (Filled j) = nat_lt j i && owns_field x (slice_get n.fields j)
-is_of_field n x i _ = false
+is_of_field n x i (Ready y) = false
+is_of_field n x i (Full y) = false
+is_of_field n x i (Equal y z) = false
+is_of_field n x i (Apart y z) = false
 
 -- a fact of a variable and another below some number
 abbrev pub is_of_pair : ℕ → ℕ → Fact → Bool
 is_of_pair x i (Equal y z) = (x == y && nat_lt z i) || (x == z && nat_lt y i)
 is_of_pair x i (Apart y z) = (x == y && nat_lt z i) || (x == z && nat_lt y i)
-is_of_pair x i _ = false
+is_of_pair x i (Ready y) = false
+is_of_pair x i (Full y) = false
+is_of_pair x i (Filled j) = false
 
 -- a fact of two variables
 abbrev pub is_of_two : ℕ → ℕ → Fact → Bool
 is_of_two x y (Equal u v) = (x == u && y == v) || (x == v && y == u)
 is_of_two x y (Apart u v) = (x == u && y == v) || (x == v && y == u)
-is_of_two x y _ = false
+is_of_two x y (Ready z) = false
+is_of_two x y (Full z) = false
+is_of_two x y (Filled j) = false
 
 -- a fact of a variable, of a field of it, or of it and another variable
 abbrev pub IsOfVariable : Names → ℕ → Fact → Type 0
 IsOfVariable n x f = (is_of_name n x f ≡ true) ⊎ ((is_of_field n x (length n.fields) f ≡ true) ⊎ (is_of_pair x (length n.vars) f ≡ true))
-
--- a fact of what is read
-abbrev pub is_of_read : Names → Read → Fact → Bool
-is_of_read n (read.Name k) f = is_of_name n k f
-is_of_read n (read.Deep s g) f = false
-
--- a fact of a field of a base
-abbrev pub is_of_base : Names → Read → Fact → Bool
-is_of_base n (read.Name x) f = is_of_field n x (length n.fields) f
-is_of_base n (read.Deep s g) f = false
-
--- a fact of two variables that are compared
-abbrev pub is_compared : Looked → Looked → Fact → Bool
-is_compared (looked.Name x) (looked.Name y) f = is_of_two x y f
-is_compared _ _ f = false
-
--- a fact of what a test speaks of
-abbrev pub IsSaid : Names → Saying → Fact → Type 0
-IsSaid n (IsNull x) f = IsOfVariable n x f
-IsSaid n (IsntNull x) f = is_of_name n x f ≡ true
-IsSaid n (AreEqual l r) f = is_compared l r f ≡ true
-IsSaid n (Differ l r) f = is_compared l r f ≡ true
-
--- a fact of what a deed speaks of
-abbrev pub IsTold : Names → Deed → Fact → Type 0
-IsTold n (Reads r noted) f = is_of_read n r f ≡ true
-IsTold n (Follows x) f = is_of_name n x f ≡ true
-IsTold n (Says s) f = IsSaid n s f
-IsTold n (Sets x v) f = IsOfVariable n x f
-IsTold n (SetsField r s g v) f = is_of_base n r f ≡ true

@@ -1,11 +1,11 @@
 -- The numbers of facts as the code finds them, and sets of facts by their numbers.
-use Rattle.std.specs.Prelude.{◌≡◌, ℕ, ◌+◌, ◌^◌, ◌<◌, ◌≤◌, Bool, true, false, List, length, slice_get, Some, if◌then◌else◌}
+use Rattle.std.specs.Prelude.{◌≡◌, ℕ, ◌+◌, ◌^◌, ◌<◌, Bool, true, false, List, length, slice_get, Some, if◌then◌else◌}
 use Rattle.mf_set.specs.Numbers.{Numbers, has as has_number, with_number, without_number}
 use Rattle.ts_domain.specs.declared.fact.Fact.{Fact}
 use Rattle.ts_domain.specs.declared.before.Before.{Before}
 use Rattle.ts_domain.specs.declared.before.Before.TheVariants.{Always, Never, Where}
 use Rattle.ts_domain.specs.declared.names.Names.{Names}
-use Rattle.ts_domain.specs.Facts.{fact_count, fact_number, is_fact, number_of, pair_count, pairs_below}
+use Rattle.ts_domain.specs.Facts.{fact_count, is_fact, number_of, pair_count, pairs_below}
 use Rattle.path_facts.specs.declared.numbering.Numbering.{Numbering}
 
 -- the table has the number of pairs before those of each of the first variables

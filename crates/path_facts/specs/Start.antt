@@ -22,7 +22,10 @@ pub record IsStart (n : Names) (s : Numbers) : Type 0 where
 -- that a variable is equal to one below some number
 abbrev pub is_equal_of : ℕ → ℕ → Fact → Bool
 is_equal_of x i (Equal y z) = z == x && nat_lt y i
-is_equal_of x i _ = false
+is_equal_of x i (Ready y) = false
+is_equal_of x i (Full y) = false
+is_equal_of x i (Filled j) = false
+is_equal_of x i (Apart y z) = false
 
 -- the facts of a variable that may be false before a run, those of pairs by the greater one
 abbrev pub is_started_at : ℕ → Fact → Bool

@@ -1,8 +1,8 @@
-// What has to hold before a deed so that a fact holds behind it.
+// What has to hold before a write to a variable so that a fact holds behind it.
 ghost use Rattle.std.specs.Prelude.{◌≡◌, ◌==◌, cond, slice_get};
-ghost use Rattle.ts_domain.specs.Facts.{apart, apart_of, apart_pair, before_deed, before_given, before_set, equal, equal_of, equal_pair, filled, filled_of, follow_shows, full_of, given, given_read, is_field, is_field_of, is_itself, is_pair, null_shows, other_of, owns_field, pair_of, read_shows, ready_of, saying_shows, shown, write_shows};
+ghost use Rattle.ts_domain.specs.Facts.{apart, apart_of, apart_pair, before_given, equal, equal_of, equal_pair, filled, filled_of, full_of, given, given_read, is_field_of, is_itself, other_of, owns_field, pair_of, ready_of};
 
-use ts_domain::{Before, Deed, Fact, Given, Looked, Names, Read, Saying, Source, field_place};
+use ts_domain::{Before, Fact, Given, Looked, Names, Source, field_place};
 
 /// That two variables are equal.
 pub fn equal_pair(x: usize, y: usize) -> Fact
@@ -70,7 +70,8 @@ fn given_read(names: &Names, looked: Looked) -> Given
     }
 }
 
-fn given(names: &Names, source: Source) -> Given
+/// What a write gives, as far as facts tell.
+pub fn given(names: &Names, source: Source) -> Given
     ensures { result ≡ given names.now source }
 {
     match source {
@@ -201,7 +202,8 @@ fn apart_before(x: usize, given: Given, y: usize, z: usize) -> Before
     }
 }
 
-fn before_given(names: &Names, x: usize, given: Given, fact: Fact) -> Before
+/// What has to hold before a variable gets that, so that a fact holds behind it.
+pub fn before_given(names: &Names, x: usize, given: Given, fact: Fact) -> Before
     ensures { result ≡ before_given names.now x given fact }
 {
     match fact {
@@ -213,7 +215,8 @@ fn before_given(names: &Names, x: usize, given: Given, fact: Fact) -> Before
     }
 }
 
-fn is_itself(x: usize, given: Given) -> bool
+/// Whether a variable gets its own content.
+pub fn is_itself(x: usize, given: Given) -> bool
     ensures { result ≡ is_itself x given }
 {
     match given {
@@ -222,67 +225,8 @@ fn is_itself(x: usize, given: Given) -> bool
     }
 }
 
-fn before_set(names: &Names, x: usize, given: Given, fact: Fact) -> Before
-    ensures { result ≡ before_set names.now x given fact }
-{
-    if is_itself(x, given) {
-        Before::Where(fact)
-    } else {
-        before_given(names, x, given, fact)
-    }
-}
-
-fn shown(shows: bool, fact: Fact) -> Before
-    ensures { result ≡ shown shows fact }
-{
-    if shows {
-        Before::Always
-    } else {
-        Before::Where(fact)
-    }
-}
-
-fn is_field(names: &Names, read: Read, field: usize) -> bool
-    ensures { result ≡ is_field names.now read field }
-{
-    match read {
-        Read::Name(name) => {
-            let vars = names.vars.len();
-            name >= vars && name - vars == field
-        }
-        Read::Deep(_, _) => false,
-    }
-}
-
-fn is_variable(read: Read, x: usize) -> bool
-    ensures { (n : Names) → result ≡ read_shows n read (Fact.Ready x) }
-{
-    match read {
-        Read::Name(name) => name == x,
-        Read::Deep(_, _) => false,
-    }
-}
-
-fn read_shows(names: &Names, read: Read, fact: Fact) -> bool
-    ensures { result ≡ read_shows names.now read fact }
-{
-    match fact {
-        Fact::Ready(x) => is_variable(read, x),
-        Fact::Filled(field) => is_field(names, read, field),
-        Fact::Full(_) | Fact::Equal(_, _) | Fact::Apart(_, _) => false,
-    }
-}
-
-fn follow_shows(followed: usize, fact: Fact) -> bool
-    ensures { result ≡ follow_shows followed fact }
-{
-    match fact {
-        Fact::Full(x) => followed == x,
-        Fact::Ready(_) | Fact::Filled(_) | Fact::Equal(_, _) | Fact::Apart(_, _) => false,
-    }
-}
-
-fn is_field_of(x: usize, number: usize, field: Option<(usize, usize)>) -> bool
+/// Whether a field is that of a number of a variable.
+pub fn is_field_of(x: usize, number: usize, field: Option<(usize, usize)>) -> bool
     ensures { result ≡ is_field_of x number field }
 {
     match field {
@@ -298,58 +242,5 @@ pub fn owns_field(x: usize, field: Option<(usize, usize)>) -> bool
     match field {
         None => false,
         Some((variable, _)) => variable == x,
-    }
-}
-
-fn write_shows(names: &Names, base: Read, number: usize, fact: Fact) -> bool
-    ensures { result ≡ write_shows names.now base number fact }
-{
-    match (base, fact) {
-        (Read::Name(x), Fact::Filled(field)) => is_field_of(x, number, field_at(names, field)),
-        _ => false,
-    }
-}
-
-fn null_shows(names: &Names, x: usize, fact: Fact) -> bool
-    ensures { result ≡ null_shows names.now x fact }
-{
-    match fact {
-        Fact::Apart(y, z) => x == y || x == z,
-        Fact::Filled(field) => owns_field(x, field_at(names, field)),
-        Fact::Ready(_) | Fact::Full(_) | Fact::Equal(_, _) => false,
-    }
-}
-
-fn is_pair(left: Looked, right: Looked, x: usize, y: usize) -> bool
-    ensures { result ≡ is_pair left right x y }
-{
-    match (left, right) {
-        (Looked::Name(k), Looked::Name(l)) => (k == x && l == y) || (k == y && l == x),
-        _ => false,
-    }
-}
-
-fn saying_shows(names: &Names, saying: Saying, fact: Fact) -> bool
-    ensures { result ≡ saying_shows names.now saying fact }
-{
-    match (saying, fact) {
-        (Saying::IsNull(x), _) => null_shows(names, x, fact),
-        (Saying::IsntNull(x), Fact::Full(y)) => x == y,
-        (Saying::AreEqual(left, right), Fact::Equal(x, y)) => is_pair(left, right, x, y),
-        (Saying::Differ(left, right), Fact::Apart(x, y)) => is_pair(left, right, x, y),
-        _ => false,
-    }
-}
-
-/// What has to hold before a deed so that a fact holds behind it.
-pub fn before_deed(names: &Names, deed: &Deed, fact: Fact) -> Before
-    ensures { result ≡ before_deed names.now deed.now fact }
-{
-    match *deed {
-        Deed::Reads(read, _) => shown(read_shows(names, read, fact), fact),
-        Deed::Follows(x) => shown(follow_shows(x, fact), fact),
-        Deed::Says(saying) => shown(saying_shows(names, saying, fact), fact),
-        Deed::Sets(x, source) => before_set(names, x, given(names, source), fact),
-        Deed::SetsField(base, _, number, _) => shown(write_shows(names, base, number, fact), fact),
     }
 }

@@ -6,7 +6,11 @@ mod corrections;
 mod deeds;
 mod numbering;
 mod paths;
+mod shows;
 mod start;
 mod worklist;
 
+pub use deeds::over_deeds;
+pub use numbering::{Numbering, numbering_of};
 pub use paths::path;
+pub use start::{full, start_set};

@@ -1,5 +1,6 @@
 // The facts that hold on every path to each node.
 ghost use Rattle.std.specs.Prelude.{◌≡◌, ◌<◌, ◌≤◌, length, map, take, IfOk};
+ghost use Rattle.ts_domain.specs.Holding.{IsPathOfRuns};
 ghost use Rattle.ts_domain.specs.Path.{IsPath};
 ghost use Rattle.path_facts.specs.Numbering.{IsNumbering, room_of};
 ghost use Rattle.path_facts.specs.Paths.{AreFacts, Counts, EndsWithin, from_of};
@@ -136,7 +137,8 @@ fn shortened(sets: Seq<BitSet>, count: usize) -> Seq<BitSet>
 
 /// The numbers of the facts that hold at each node, whatever way leads there.
 pub fn path(alloc: Global, graph: &Graph, names: &Names) -> Result<Path, Memory>
-    ensures { IfOk result (IsPath names.now graph.now) }
+    ensures exact { IfOk result (IsPath names.now graph.now) }
+    ensures runs { IfOk result (IsPathOfRuns names.now graph.now) }
 {
     let count = count_of(graph)?;
     let sets = facts_of(alloc, graph, names, count)?;
