@@ -1,5 +1,5 @@
 -- Elements of lists that are mapped, filtered and joined, and lists in which nothing stands twice.
-use Rattle.std.proofs.Common.{◌≡◌, ◌≢◌, ℕ, zero, suc, ◌+◌, ◌<◌, ◌≤◌, ◌==◌, Bool, true, false, cond, List, [], ◌∷◌, ◌++◌, length, map, slice_get, Some, ⊎_elim, refl, ap, sym, subst, arith}
+use Rattle.std.proofs.Common.{◌≡◌, ◌≢◌, ℕ, zero, suc, ◌+◌, ◌<◌, ◌≤◌, ◌==◌, Bool, true, false, cond, List, [], ◌∷◌, ◌++◌, length, map, get_or, slice_get, Some, ⊎_elim, refl, ap, sym, subst, ◌∙◌, arith}
 use Rattle.std.proofs.lemmas.Bool.{cases_eq, eq-eqb, eqb-true}
 use Rattle.std.proofs.lemmas.List.Elements.{Contains-append_cases}
 use Rattle.std.proofs.lemmas.Option.{slice_get_within, slice_get_cases, get_or_from_slice_get}
@@ -96,3 +96,31 @@ once_ascending low (x ∷ xs) up =
     once_more
     (λ c. let above : suc x ≤ x = has_from_low (suc x) xs x up.1 (as_has xs x c) in omega (arith, above))
     (once_ascending (suc x) xs up.1)
+
+-- and a list in which nothing stands twice is no longer than one that has all of it
+
+module _ {A : Type 0} where
+  abbrev Without : ℕ → List A → List A
+  Without k [] = []
+  Without zero (y ∷ ys) = ys
+  Without (suc k) (y ∷ ys) = y ∷ Without k ys
+
+  one_less : (k : ℕ) (ys : List A) → k < length ys → length ys ≡ suc (length (Without k ys))
+  one_less k [] l = absurd (omega arith)
+  one_less zero (y ∷ ys) l = refl
+  one_less (suc k) (y ∷ ys) l = ap suc (one_less k ys (omega arith))
+
+  kept : (k : ℕ) (ys : List A) (x z : A) → get_or ys k x ≡ x → Contains ys z → (z ≡ x → ⊥) → Contains (Without k ys) z
+  kept k [] x z e (j, l, f) other = absurd (omega (arith, l))
+  kept zero (y ∷ ys) x z e (zero, l, f) other = absurd (other (sym f ∙ e))
+  kept zero (y ∷ ys) x z e (suc j, l, f) other = (j, omega (arith, l), f)
+  kept (suc k) (y ∷ ys) x z e (zero, l, f) other = subst (λ w. Contains (y ∷ Without k ys) w) f (at_first y (Without k ys))
+  kept (suc k) (y ∷ ys) x z e (suc j, l, f) other = at_later y z (Without k ys) (kept k ys x z e (j, omega (arith, l), f) other)
+
+  pub once_fits : (xs ys : List A) → IsOnce xs → ((z : A) → Contains xs z → Contains ys z) → length xs ≤ length ys
+  once_fits [] ys h all = omega arith
+  once_fits (x ∷ xs) ys (once_more none h) all =
+      let at = all x (at_first x xs) in
+      let rest : length xs ≤ length (Without at.0 ys) = once_fits xs (Without at.0 ys) h (λ z c. kept at.0 ys x z at.2 (all z (at_later x z xs c)) (λ same. none (subst (λ w. Contains xs w) same c))) in
+      let less : length ys ≡ suc (length (Without at.0 ys)) = one_less at.0 ys at.1 in
+      omega (arith, rest, less)

@@ -3,3 +3,8 @@ pub mod Ranks
 pub mod BitLaws
 pub mod ChoiceLaws
 pub mod FoundLaws
+pub mod SetsOnce
+pub mod ConflictLaws
+pub mod ListLaws
+pub mod LoopLaws
+pub mod PutsOnce

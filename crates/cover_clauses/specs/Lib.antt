@@ -1,2 +1,4 @@
 pub mod Clauses
 pub mod Parts
+pub mod Conflicts
+pub mod Listing

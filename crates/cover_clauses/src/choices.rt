@@ -1,11 +1,12 @@
 // The choice that bits stand for.
-ghost use Rattle.std.specs.Prelude.{◌≡◌, ◌+◌, ◌++◌, ◌^◌, ◌<◌, [], ◌∷◌, ◌&&◌, cond, length, slice_get, IfOk, OnOk};
+ghost use Rattle.std.specs.Prelude.{◌≡◌, ◌+◌, ◌++◌, ◌^◌, ◌<◌, [], ◌∷◌, ◌&&◌, cond, length, slice_get, IfOk, IsTrue, OnOk};
+ghost use Rattle.c_tree.specs.Fill.{ascends, IsAscending};
 ghost use Rattle.c_tree.specs.Typing.{has};
 ghost use Rattle.sat_log.specs.Clauses.{Satisfies};
 ghost use Rattle.sat_log.specs.declared.problem.Clauses.{Clauses};
 ghost use Rattle.cover_problem.specs.Covering.{is_usable};
 ghost use Rattle.cover_problem.specs.Problem.{HasRooms, IsCoverOf};
-ghost use Rattle.cover_clauses.specs.Clauses.{choice_of, variables, AreClauses, IsOnce};
+ghost use Rattle.cover_clauses.specs.Clauses.{choice_of, variables, AreClauses};
 ghost use Rattle.cover_clauses.specs.Parts.{chosen_puts, IsFound};
 
 use crate::usable::usable;
@@ -36,7 +37,7 @@ fn push_if(puts: &mut Seq<Put>, passes: bool, put: Put) -> Result<(), Memory>
     if passes { puts.push(put) } else { Ok(()) }
 }
 
-fn next(variable: usize, passes: bool) -> usize
+pub fn next(variable: usize, passes: bool) -> usize
     requires { variable + 1 < 2 ^ 64 }
     ensures { result ≡ variable + cond passes 1 0 }
 {
@@ -69,9 +70,11 @@ pub fn choice_of(alloc: Global, problem: &Problem, bits: &[bool]) -> Result<Choi
     requires counted { length bits.now ≡ variables problem.now }
     ensures choice { IfOk result (λ choice. choice ≡ choice_of problem.now bits.now) }
 
-    // Where no put is named twice, bits that satisfy the clauses stand for a cover.
+    ensures ascending { IfOk result (λ choice. IsTrue (ascends problem.now.names.puts) → IsAscending choice) }
+
+    // Where the puts ascend, bits that satisfy the clauses stand for a cover.
     ensures cover { IfOk result (λ choice.
-        IsOnce problem.now.names.puts → (clauses : Clauses) → AreClauses problem.now clauses →
+        IsTrue (ascends problem.now.names.puts) → (clauses : Clauses) → AreClauses problem.now clauses →
         Satisfies bits.now clauses.list → IsCoverOf problem.now choice) }
 {
     let usable = usable(alloc, problem)?;

@@ -4,3 +4,4 @@ pub mod AllowedLaws
 pub mod ProblemLaws
 pub mod CoverLaws
 pub mod AloneLaws
+pub mod ShapeLaws
