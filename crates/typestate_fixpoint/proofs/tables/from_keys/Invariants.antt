@@ -1,0 +1,6 @@
+use Rattle.std.proofs.Common.{◌≡◌, ◌++◌, drop, map}
+use Rattle.typestate_fixpoint.specs.Steps.{from_of}
+use Rattle.typestate_fixpoint.proofs.tables.from_keys.Given as goal
+
+abbrev pub invariant-loop-edge : goal.invariant-loop-edge
+invariant-loop-edge l = l.keys ++ map from_of (drop l.edge-index l.edges) ≡ map from_of l.edges
