@@ -1,0 +1,12 @@
+pub mod ClosedConditions
+pub mod ClosedSafe
+pub mod EdgeStores
+pub mod GapMarks
+pub mod PostLaws
+pub mod FactsByNumber
+pub mod FactLaws
+pub mod RangeLaws
+pub mod EdgeLaws
+pub mod Places
+pub mod ReasonLaws
+pub mod FirstLaws

@@ -1,0 +1,2 @@
+pub mod GapPuts
+pub mod FilledPosts
