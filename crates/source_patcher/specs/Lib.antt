@@ -2,3 +2,5 @@ pub mod PutsByGap
 pub mod Gaps
 pub mod Changes
 pub mod Edit
+pub mod Refilled
+pub mod InScope
