@@ -1,5 +1,5 @@
 -- Where control may go in a block doesn't hang on its gaps, offsets and braces.
-use Rattle.std.proofs.Common.{◌≡◌, false, List, [], ◌∷◌, map, Option, Some, None, option_map, refl, sym, ap, subst, ◌∙◌}
+use Rattle.std.proofs.Common.{◌≡◌, Bool, false, List, [], ◌∷◌, map, Option, Some, None, option_map, refl, sym, ap, subst, ◌∙◌}
 use Rattle.c_tree.specs.Alike.{bare_expr, bare_item, bare_layer}
 use Rattle.c_tree.specs.Flow.{arm_flow, arm_flow_of, arms_flow, block_flow, edges_layer, edges_of, edges_or_hold, flow_of, flow_or, item_flow, item_flow_of, loop, piece_flow, piece_flow_of, sequence}
 use Rattle.c_tree.specs.declared.control.Edges.{Edges}
@@ -45,22 +45,25 @@ or_hold_kept : (o : Option Expr) → edges_or_hold (option_map bare_expr o) ≡ 
 or_hold_kept None = refl
 or_hold_kept (Some e) = edges_kept e
 
--- blocks, with any gaps
+-- blocks, with any braces and gaps
 
-abbrev pub layers_with : (Gap → Gap) → Layers
-layers_with g = record {
+abbrev pub layers_by : (Bool → Bool) → (Gap → Gap) → Layers
+layers_by h g = record {
   item = bare_item;
   arm = λ a. record a { test = bare_expr a.test };
-  block = λ b. record b { last_gap = g b.last_gap; braced = false; start = 0; end = 0 };
+  block = λ b. record b { last_gap = g b.last_gap; braced = h b.braced; start = 0; end = 0 };
   piece = λ q. record q { gap = g q.gap; start = 0; end = 0 };
 }
 
-module _ (g : Gap → Gap) where
-  abbrev all : Maps
-  all = rebuilt (layers_with g)
+abbrev pub layers_with : (Gap → Gap) → Layers
+layers_with = layers_by (λ _. false)
 
-  opens : Rebuilds all (layers_with g)
-  opens = rebuilt_rebuilds (layers_with g)
+module _ (h : Bool → Bool) (g : Gap → Gap) where
+  abbrev all : Maps
+  all = rebuilt (layers_by h g)
+
+  opens : Rebuilds all (layers_by h g)
+  opens = rebuilt_rebuilds (layers_by h g)
 
   abbrev SameItem : Item → Type 0
   SameItem i = item_flow_of (all.item i) ≡ item_flow_of i
@@ -86,9 +89,9 @@ module _ (g : Gap → Gap) where
   abbrev HeldPieces : Type 0
   HeldPieces = (q : Piece) × SamePiece q
 
-  all_same : {A B : Type 0} (f : A → B) (h : A → A) (xs : List ((x : A) × (f (h x) ≡ f x))) → map f (map h (map (λ x. x.0) xs)) ≡ map f (map (λ x. x.0) xs)
-  all_same f h [] = refl
-  all_same f h (x ∷ xs) = ap (λ y. y ∷ map f (map h (map (λ x. x.0) xs))) x.1 ∙ ap (λ ys. f x.0 ∷ ys) (all_same f h xs)
+  all_same : {A B : Type 0} (f : A → B) (k : A → A) (xs : List ((x : A) × (f (k x) ≡ f x))) → map f (map k (map (λ x. x.0) xs)) ≡ map f (map (λ x. x.0) xs)
+  all_same f k [] = refl
+  all_same f k (x ∷ xs) = ap (λ y. y ∷ map f (map k (map (λ x. x.0) xs))) x.1 ∙ ap (λ ys. f x.0 ∷ ys) (all_same f k xs)
 
   abbrev flows : Item-F Item Arm Block Piece → Item-F Flow (Edges × Flow) Flow Flow
   flows = map-Item Item Arm Block Piece Flow (Edges × Flow) Flow Flow item_flow_of arm_flow_of flow_of piece_flow_of
@@ -134,7 +137,7 @@ module _ (g : Gap → Gap) where
   step_block x y is =
       let items : map piece_flow_of (map all.piece x.items) ≡ map piece_flow_of x.items =
       subst (λ (z : Block-F Item Arm Block Piece). map piece_flow_of (map all.piece z.items) ≡ map piece_flow_of z.items) is (all_same piece_flow_of all.piece y.items) in
-      ap flow_of (opens.block x) ∙ block_roll ((layers_with g).block (in_block all x)) ∙ ap sequence items ∙ sym (block_roll x)
+      ap flow_of (opens.block x) ∙ block_roll ((layers_by h g).block (in_block all x)) ∙ ap sequence items ∙ sym (block_roll x)
 
   piece_roll : (x : Piece-F Item Arm Block Piece) → piece_flow_of (roll-Piece x) ≡ item_flow_of x.item
   piece_roll = fold-roll-Piece Flow (Edges × Flow) Flow Flow item_flow arm_flow block_flow piece_flow
@@ -142,11 +145,11 @@ module _ (g : Gap → Gap) where
   step_piece : (x : Piece-F Item Arm Block Piece) (y : Piece-F HeldItems HeldArms HeldBlocks HeldPieces) → map-Piece HeldItems HeldArms HeldBlocks HeldPieces Item Arm Block Piece (λ e. e.0) (λ e. e.0) (λ e. e.0) (λ e. e.0) y ≡ x → SamePiece (roll-Piece x)
   step_piece x y is =
       let item : SameItem x.item = subst (λ (z : Piece-F Item Arm Block Piece). SameItem z.item) is y.item.1 in
-      ap piece_flow_of (opens.piece x) ∙ piece_roll ((layers_with g).piece (in_piece all x)) ∙ item ∙ sym (piece_roll x)
+      ap piece_flow_of (opens.piece x) ∙ piece_roll ((layers_by h g).piece (in_piece all x)) ∙ item ∙ sym (piece_roll x)
 
   pub flow_kept : (b : Block) → flow_of (all.block b) ≡ flow_of b
   flow_kept = ind-Block SameItem SameArm SameBlock SamePiece step_item step_arm step_block step_piece
 
 -- blocks that are equal but for gaps, offsets and braces
 pub same_flow : (f g : Gap → Gap) (b c : Block) → (rebuilt (layers_with f)).block c ≡ (rebuilt (layers_with g)).block b → flow_of c ≡ flow_of b
-same_flow f g b c same = sym (flow_kept f c) ∙ ap flow_of same ∙ flow_kept g b
+same_flow f g b c same = sym (flow_kept (λ _. false) f c) ∙ ap flow_of same ∙ flow_kept (λ _. false) g b

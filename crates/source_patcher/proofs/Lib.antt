@@ -23,3 +23,11 @@ pub mod Texts
 pub mod TokensWithin
 pub mod TopsEdited
 pub mod Turns
+pub mod Offsets
+pub mod OffsetsBlocks
+pub mod OffsetsCalls
+pub mod OffsetsProgram
+pub mod OffsetsRead
+pub mod OffsetsScopes
+pub mod OffsetsStatements
+pub mod OffsetsTops
