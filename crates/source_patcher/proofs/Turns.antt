@@ -204,8 +204,8 @@ made_blank bytes front last t es us order begins within d =
     }
 
 -- a text in front of a blanked token: the blanks can come first or last
-exchanged : (s e : ℕ) (text blanks T : List ℕ) → s ≤ e → s ≤ length T → let T2 = with_one (inserted s text) T in let d = length text in
-    with_one (inserted s text) (take s T ++ blanks ++ drop e T) ≡ take (s + d) T2 ++ blanks ++ drop (e + d) T2
+exchanged : (s e : ℕ) (text blanks T : List ℕ) → s ≤ e → s ≤ length T → let U = with_one (inserted s text) T in let d = length text in
+    with_one (inserted s text) (take s T ++ blanks ++ drop e T) ≡ take (s + d) U ++ blanks ++ drop (e + d) U
 exchanged s e text blanks T order within =
     let w = take s T in
     let b = drop e T in
@@ -215,15 +215,15 @@ exchanged s e text blanks T order within =
     let joined : w ++ blanks ++ b ≡ w ++ (blanks ++ b) = append_assoc w blanks b in
     let front : take s (w ++ blanks ++ b) ≡ w = ap (take s) joined ∙ take_at w (blanks ++ b) s len in
     let back : drop s (w ++ blanks ++ b) ≡ blanks ++ b = ap (drop s) joined ∙ drop_at w (blanks ++ b) s len in
-    let T2 = w ++ text ++ drop s T in
-    let front2 : take (s + d) T2 ≡ w ++ text = take_at (w ++ text) (drop s T) (s + d) len' in
+    let U = w ++ text ++ drop s T in
+    let front2 : take (s + d) U ≡ w ++ text = take_at (w ++ text) (drop s T) (s + d) len' in
     let far : e + d ≡ (s + d) + (e - s) = omega (arith, order) in
     let near : s + (e - s) ≡ e = omega (arith, order) in
-    let back2 : drop (e + d) T2 ≡ b =
-    ap (λ n. drop n T2) far ∙ sym (drop-drop (e - s) (s + d) T2) ∙ ap (drop (e - s)) (drop_at (w ++ text) (drop s T) (s + d) len') ∙ drop-drop (e - s) s T ∙ ap (λ n. drop n T) near in
+    let back2 : drop (e + d) U ≡ b =
+    ap (λ n. drop n U) far ∙ sym (drop-drop (e - s) (s + d) U) ∙ ap (drop (e - s)) (drop_at (w ++ text) (drop s T) (s + d) len') ∙ drop-drop (e - s) s T ∙ ap (λ n. drop n T) near in
     ap (λ x. x ++ text ++ drop s (w ++ blanks ++ b)) front ∙ ap (λ x. w ++ text ++ x) back
     ∙ sym (append_assoc (w ++ text) blanks b)
-    ∙ ap (λ x. x ++ blanks ++ b) (sym front2) ∙ ap (λ x. take (s + d) T2 ++ blanks ++ x) (sym back2)
+    ∙ ap (λ x. x ++ blanks ++ b) (sym front2) ∙ ap (λ x. take (s + d) U ++ blanks ++ x) (sym back2)
 
 token_within : (bytes : List ℕ) (front : List Token) (t : Token) (ts : List Token) → HasTokens bytes (front ++ t ∷ ts) → t.start ≤ length bytes
 token_within bytes front t ts has = within 0 front (tokens_ascend bytes (front ++ t ∷ ts) has)
@@ -244,24 +244,24 @@ put_and_blank bytes front last t es text added us adds order begins within d =
     let new = adds.tokens s in
     let t' = shifted_token D t in
     let back = map (shifted_token D) d.rest in
-    let T2 = with_one (inserted s text) T in
+    let U = with_one (inserted s text) T in
     let starts : text ≡ adds.first ∷ adds.more = adds.is in
     let P : List ℕ → Type 0 = λ x. HasTokens (take s T ++ x ++ drop s T) (F ++ new ++ map (shifted_token (length x)) (t ∷ d.rest)) in
     let passes : (fresh : Bool) (s' : List ℕ) → Passes fresh s ((adds.first ∷ adds.more) ++ s') (length (adds.first ∷ adds.more)) false (only new) =
     λ fresh s'. subst (λ x. Passes fresh s (x ++ s') (length x) false (only new)) starts (adds.passes fresh s s') in
-    let put : HasTokens T2 ((F ++ new) ++ t' ∷ back) = subst P (sym starts) (tokens_put T F d.rest t adds.first adds.more new adds.blank d.has d.accepted passes) in
+    let put : HasTokens U ((F ++ new) ++ t' ∷ back) = subst P (sym starts) (tokens_put T F d.rest t adds.first adds.more new adds.blank d.has d.accepted passes) in
     let front_none = none_refused_both F new (accepted_front F (t ∷ d.rest) d.accepted) (adds.accepted s) in
     let back_none = none_refused_shifted D (t ∷ d.rest) (accepted_more F (t ∷ d.rest) d.accepted) in
-    let gone = tokens_blanked T2 (F ++ new) back t' put (none_refused_both (F ++ new) (t' ∷ back) front_none back_none) in
+    let gone = tokens_blanked U (F ++ new) back t' put (none_refused_both (F ++ new) (t' ∷ back) front_none back_none) in
     let size : (t.end + D) - (t.start + D) ≡ t.end - t.start = omega arith in
     let blanks = replicate (t.end - t.start) 32 in
-    let gone' : HasTokens (take (s + D) T2 ++ blanks ++ drop (t.end + D) T2) ((F ++ new) ++ back) =
-    subst (λ n. HasTokens (take (s + D) T2 ++ replicate n 32 ++ drop (t.end + D) T2) ((F ++ new) ++ back)) size gone in
+    let gone' : HasTokens (take (s + D) U ++ blanks ++ drop (t.end + D) U) ((F ++ new) ++ back) =
+    subst (λ n. HasTokens (take (s + D) U ++ replicate n 32 ++ drop (t.end + D) U) ((F ++ new) ++ back)) size gone in
     let es' = blanked t ∷ es in
     let one : with_edits 0 es' bytes ≡ with_one (blanked t) T = first_last (blanked t) es bytes order begins within in
     let two : with_edits 0 (inserted s text ∷ es') bytes ≡ with_one (inserted s text) (with_edits 0 es' bytes) =
     first_last (inserted s text) es' bytes (omega arith) (omega arith, order, within) (omega (arith, order, within)) in
-    let same : with_edits 0 (inserted s text ∷ es') bytes ≡ take (s + D) T2 ++ blanks ++ drop (t.end + D) T2 =
+    let same : with_edits 0 (inserted s text ∷ es') bytes ≡ take (s + D) U ++ blanks ++ drop (t.end + D) U =
     two ∙ ap (with_one (inserted s text)) one ∙ exchanged s t.end text blanks T order (token_within T F t d.rest d.has) in
     let whole : (F ++ new) ++ back ≡ front ++ last ∷ (new ++ back) = append_assoc F new back ∙ append_assoc front (last ∷ []) (new ++ back) in
     record {
