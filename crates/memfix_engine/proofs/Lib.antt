@@ -5,4 +5,3 @@ mod NotesExamples
 pub mod NotesLemmas
 pub mod ReadsLemmas
 pub mod RequestLemmas
-pub mod TextFits

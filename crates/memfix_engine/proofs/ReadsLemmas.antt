@@ -27,7 +27,7 @@ use Rattle.memfix_engine.specs.declared.refusal.SourceRefusal.TheVariants as sou
 use Rattle.memfix_engine.specs.declared.refusal.ReplayRefusal.{ReplayRefusal}
 use Rattle.memfix_engine.specs.declared.refusal.ReplayRefusal.TheVariants as replay
 use Rattle.memfix_engine.specs.Outcome.{status_of_lex}
-use Rattle.memfix_engine.specs.Reads.{HasProgram, Reads, ReadsWithin}
+use Rattle.source_patcher.specs.Reads.{HasProgram, Reads, ReadsWithin}
 use Rattle.memfix_engine.specs.Refusal.{IsUnparsed, IsIllTyped, RefusesTokens, RefusesSource, source_limit}
 use Rattle.memfix_engine.specs.Replay.{RefusesReplay, refusal_of}
 

@@ -12,7 +12,7 @@ use Rattle.memfix_engine.specs.declared.request.Request.TheVariants as request
 use Rattle.memfix_engine.specs.First.Reads.{IsFirst}
 use Rattle.memfix_engine.specs.Notes.{replay_line}
 use Rattle.memfix_engine.specs.Outcome.{IsRead, OfText, IsRefused, IsDeep, IsUsage, IsTooLong, IsReadFault, IsMemory, status_of_lex}
-use Rattle.memfix_engine.specs.Reads.{HasProgram}
+use Rattle.source_patcher.specs.Reads.{HasProgram}
 use Rattle.memfix_engine.specs.Refusal.{source_limit}
 use Rattle.memfix_engine.specs.Repair.{Repairs}
 use Rattle.memfix_engine.specs.Replay.{Replays}

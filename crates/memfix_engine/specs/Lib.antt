@@ -3,7 +3,6 @@ pub mod Edit
 pub mod First
 pub mod Notes
 pub mod Outcome
-pub mod Reads
 pub mod Refusal
 pub mod Repair
 pub mod Replay

@@ -3,7 +3,7 @@ use Rattle.std.specs.Prelude.{◌≡◌, ◌<◌, ◌≤◌, ℕ, Bool, List, le
 use Rattle.c_meaning.specs.Safe.{run}
 use Rattle.c_meaning.specs.declared.machine.Machine.{Machine}
 use Rattle.c_tree.specs.declared.program.Program.{Program}
-use Rattle.memfix_engine.specs.Reads.{ReadsWithin}
+use Rattle.source_patcher.specs.Reads.{ReadsWithin}
 use Rattle.memfix_engine.specs.Refusal.{RefusesSource, source_limit}
 use Rattle.memfix_engine.specs.declared.refusal.ReplayRefusal.{ReplayRefusal}
 use Rattle.memfix_engine.specs.declared.refusal.ReplayRefusal.TheVariants.{TooLong, Source, Memory}

@@ -1,7 +1,7 @@
 //! A text replayed.
 ghost use Rattle.std.specs.Prelude.{◌≡◌, ◌≤◌, length, IfOk, IfErr, OnOk};
 ghost use Rattle.c_tree.specs.declared.program.Program.{Program};
-ghost use Rattle.memfix_engine.specs.Reads.{ReadsWithin};
+ghost use Rattle.source_patcher.specs.Reads.{ReadsWithin};
 ghost use Rattle.memfix_engine.specs.Refusal.{source_limit};
 ghost use Rattle.memfix_engine.specs.Replay.{Replays, RefusesReplay, refusal_of};
 

@@ -5,7 +5,7 @@ ghost use Rattle.c_parser.specs.Answer.{IsAnswer as IsParsed};
 ghost use Rattle.c_tree.specs.WellFormed.{IsWellFormed};
 ghost use Rattle.c_tree.specs.declared.program.Program.{Program};
 ghost use Rattle.c_types.specs.Program.{IsAnswer as IsResolved};
-ghost use Rattle.memfix_engine.specs.Reads.{HasProgram, Reads, ReadsWithin};
+ghost use Rattle.source_patcher.specs.Reads.{HasProgram, Reads, ReadsWithin};
 ghost use Rattle.memfix_engine.specs.First.Others.{RefusesText};
 ghost use Rattle.memfix_engine.specs.Refusal.{RefusesSource, RefusesTokens, RefusesTree};
 ghost use Rattle.memfix_engine.specs.declared.refusal.SourceRefusal.TheVariants.{Memory};

@@ -1,4 +1,5 @@
 pub mod Along
+pub mod BareCalls
 pub mod BareFlow
 pub mod Blanked
 pub mod ChangeLaws
@@ -10,16 +11,20 @@ pub mod Framed
 pub mod FramedTops
 pub mod Inserts
 pub mod Named
+pub mod PutNames
 pub mod PutOrder
 pub mod Readback
+pub mod ReadsBack
 pub mod ReadsFilled
 pub mod RefilledProgram
 pub mod RefilledWalk
 pub mod ScopedBlocks
 pub mod ScopedFrees
+pub mod ScopedFile
 pub mod Sights
 pub mod TextEdits
 pub mod Texts
+pub mod TextFits
 pub mod TokensWithin
 pub mod TopsEdited
 pub mod Turns

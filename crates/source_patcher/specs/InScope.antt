@@ -1,6 +1,6 @@
 -- Which puts are in scope at their gaps: `x` where the variable x is visible, `x->f` where x is and the body of its struct stands before
 -- the gap; each of a pointer type.
-use Rattle.std.specs.Prelude.{ℕ, ◌+◌, nat_eq, Bool, true, ◌&&◌, List, [], ◌∷◌, drop, Option, Some, None, IsTrue}
+use Rattle.std.specs.Prelude.{ℕ, ◌+◌, nat_eq, nat_lt, Bool, true, ◌&&◌, List, [], ◌∷◌, drop, Option, Some, None, IsTrue}
 use Rattle.std.specs.List.{list_all}
 use Rattle.std.specs.Option.{option_and_then}
 use Rattle.std.specs.Set.{is_member}
@@ -43,3 +43,7 @@ functions_have p puts f s (d ∷ ds) =
 -- each put of a choice that has its gap in the program is in scope there
 abbrev pub AreInScope : Program → List Put → Type 0
 AreInScope p puts = IsTrue (functions_have p puts 0 (so_far 0 []) p.funs)
+
+-- the gap of each put is one of the program's gaps
+abbrev pub HaveGaps : Program → List Put → Type 0
+HaveGaps p puts = IsTrue (list_all (λ (q : Put). nat_lt q.gap p.gaps) puts)

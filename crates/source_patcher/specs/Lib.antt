@@ -4,3 +4,5 @@ pub mod Changes
 pub mod Edit
 pub mod Refilled
 pub mod InScope
+pub mod Reads
+pub mod ReadsBack

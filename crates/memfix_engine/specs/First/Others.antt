@@ -5,7 +5,7 @@ use Rattle.c_lexer.specs.Outcome.{AreTokens, Answers}
 use Rattle.c_tree.specs.declared.program.Program.{Program}
 use Rattle.memfix_engine.specs.First.Prefix.{IsPlace}
 use Rattle.memfix_engine.specs.First.Reads.{IsFirst}
-use Rattle.memfix_engine.specs.Reads.{HasProgram}
+use Rattle.source_patcher.specs.Reads.{HasProgram}
 use Rattle.memfix_engine.specs.Refusal.{IsUnparsed, IsUnresolved}
 use Rattle.memfix_engine.specs.declared.refusal.SourceRefusal.{SourceRefusal}
 use Rattle.memfix_engine.specs.declared.refusal.SourceRefusal.TheVariants as source

@@ -3,7 +3,7 @@ ghost use Rattle.std.specs.Prelude.{◌≡◌, IfOk, IfErr, IfSome, IfNone};
 ghost use Rattle.c_tree.specs.declared.program.Program.{Program};
 ghost use Rattle.memfix_engine.specs.First.Others.{RefusesOthers, RefusesText};
 ghost use Rattle.memfix_engine.specs.First.Reads.{IsFirst};
-ghost use Rattle.memfix_engine.specs.Reads.{HasProgram};
+ghost use Rattle.source_patcher.specs.Reads.{HasProgram};
 ghost use Rattle.memfix_engine.specs.First.Source.{IsSource};
 
 use crate::first_form::form::draft_of;

@@ -1,10 +1,10 @@
 -- What refuses a text excludes that it reads as a program, and a text's program is well formed.
 use Rattle.std.proofs.Common.{rules, IfErr}
 use Rattle.c_lexer.specs.Outcome.{AreTokens}
-use Rattle.memfix_engine.specs.Reads.{HasProgram}
+use Rattle.source_patcher.specs.Reads.{HasProgram}
 use Rattle.memfix_engine.specs.Refusal.{RefusesSource}
 use Rattle.memfix_engine.proofs.ReadsLemmas.{only_refused}
-use Rattle.memfix_engine.proofs.TextFits.{text_well_formed}
+use Rattle.source_patcher.proofs.TextFits.{text_well_formed}
 use Rattle.memfix_engine.proofs.source.read_source.Goals as goal
 
 pub returns-in_err-tokens-clause-only : goal.returns-in_err-tokens-clause-only

@@ -39,7 +39,7 @@ use Rattle.c_parser.specs.Offsets.{AllHave, AnyHas, ExprHas, ArgHas, SizeHas, Ca
 use Rattle.c_parser.proofs.NumbersFit.{FitsInt, answered_fit}
 use Rattle.c_parser.proofs.OffsetOrder.{tops_in_order}
 use Rattle.c_types.proofs.ProgramFits.{program_fits}
-use Rattle.memfix_engine.specs.Reads.{HasProgram}
+use Rattle.source_patcher.specs.Reads.{HasProgram}
 use Rattle.c_types.specs.Offsets.{layer_stands, expr_stands, arg_stands, size_stands, call_stands, right_stands, declr_stands, simple_stands, start_stands, head_stands, free_stands, gap_stands, item_stands, arm_stands, layers_stand, piece_stands, block_stands, global_stands, top_stands, bodies_of, is_behind_all, StandsFrom, FitsText}
 
 both : (a b : Bool) → a ≡ true → b ≡ true → (a && b) ≡ true
