@@ -33,7 +33,7 @@ use Rattle.source_patcher.proofs.RefilledProgram.{file_seen}
 use Rattle.source_patcher.proofs.ScopedFile.{file_scoped}
 use Rattle.source_patcher.proofs.TextFits.{text_well_formed}
 
-has_tokens : (bytes : List ℕ) (tokens : Tokens) → AreTokens bytes tokens → HasTokens bytes tokens.list
+pub has_tokens : (bytes : List ℕ) (tokens : Tokens) → AreTokens bytes tokens → HasTokens bytes tokens.list
 has_tokens bytes tokens are = record { last_comment = tokens.last_comment; reads = are.reads }
 
 alike_back : (text : List ℕ) (p : Program) (choice : Choice) → (IsCyclic (user_calls p) → ⊥) → ReadsAlike text p choice → ReadsBack text p choice

@@ -4,6 +4,9 @@ ghost use Rattle.c_lexer.specs.declared.token.Token.{Token};
 ghost use Rattle.c_lexer.specs.Scan.{HasTokens};
 ghost use Rattle.c_tree.specs.Fill.{IsAscending};
 ghost use Rattle.source_patcher.specs.Edit.{IsAccepted, edited};
+ghost use Rattle.source_patcher.specs.InScope.{AreInScope, HaveGaps};
+ghost use Rattle.source_patcher.specs.Reads.{ReadsWithin};
+ghost use Rattle.source_patcher.specs.ReadsBack.{ReadsBack};
 
 use crate::puts::GapPuts;
 use crate::walk::changes;
@@ -36,7 +39,9 @@ pub fn edit(
     requires accepted { IsAccepted bytes.now }
     requires ascending { IsAscending choice.now }
     // The tokens are those of the text, which has one list of them.
-    ensures { (tokens : List Token) → HasTokens bytes.now tokens → IfOk result (λ text. text ≡ edited bytes.now tokens program.now choice.now) }
+    ensures text { (tokens : List Token) → HasTokens bytes.now tokens → IfOk result (λ text. text ≡ edited bytes.now tokens program.now choice.now) }
+    // Where the program was read from the text and each put is in scope at its gap, the edited text reads as the filled program.
+    ensures reads { ReadsWithin bytes.now program.now → AreInScope program.now choice.now.puts → HaveGaps program.now choice.now.puts → IfOk result (λ text. ReadsBack text program.now choice.now) }
 {
     let tokens = tokens_of(alloc, bytes)?;
     let puts = GapPuts::new(alloc, choice.puts.as_slice(), program.gaps)?;
