@@ -22,6 +22,8 @@ pub mod ScopedBlocks
 pub mod ScopedFrees
 pub mod ScopedFile
 pub mod Sights
+pub mod SpelledBlocks
+pub mod SpelledTops
 pub mod TextEdits
 pub mod Texts
 pub mod TextFits
