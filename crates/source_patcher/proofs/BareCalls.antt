@@ -5,8 +5,8 @@ use Rattle.std.specs.List.{Contains}
 use Rattle.std.proofs.lemmas.List.{map-append}
 use Rattle.c_tree.specs.Alike.{IsAlike, bare_block, bare_call, bare_declr, bare_fun, bare_gap, bare_item, bare_right, bare_simple, bare_start}
 use Rattle.c_tree.specs.Cycles.{Calls, IsCyclic}
-use Rattle.c_tree.specs.Fill.{fill, filled, regapped_block, regapped_fun}
-use Rattle.c_tree.specs.UserCalls.{Here, arm_calls, arm_calls_in, block_calls, call_calls, calls_from, calls_in, declr_calls, from_option, head_calls, item_calls, item_calls_in, piece_calls, piece_calls_in, right_calls, simple_calls, start_calls, user_calls}
+use Rattle.c_tree.specs.Fill.{fill, filled, regapped_fun}
+use Rattle.c_tree.specs.UserCalls.{Here, arm_calls, arm_calls_in, block_calls, call_calls, calls_from, calls_in, declr_calls, from_option, item_calls, item_calls_in, piece_calls, piece_calls_in, right_calls, simple_calls, start_calls, user_calls}
 use Rattle.c_tree.specs.declared.choice.Choice.{Choice}
 use Rattle.c_tree.specs.declared.control.UserCall.{UserCall}
 use Rattle.c_tree.specs.declared.program.Arm.{Arm, Arm-F, roll-Arm, fold-roll-Arm, map-Arm}
@@ -14,7 +14,6 @@ use Rattle.c_tree.specs.declared.program.Block.{Block, Block-F, roll-Block, fold
 use Rattle.c_tree.specs.declared.program.Call.{Call}
 use Rattle.c_tree.specs.declared.program.Call.TheVariants as call
 use Rattle.c_tree.specs.declared.program.Declr.{Declr}
-use Rattle.c_tree.specs.declared.program.ForHead.{ForHead}
 use Rattle.c_tree.specs.declared.program.FunDef.{FunDef}
 use Rattle.c_tree.specs.declared.program.Item.{Item, Item-F, roll-Item, fold-roll-Item, map-Item}
 use Rattle.c_tree.specs.declared.program.Item.TheOpen.{Declare, Assign, Do, Nest, If, While, For, Break, Continue, Return}

@@ -20,7 +20,6 @@ pub mod RefilledProgram
 pub mod RefilledWalk
 pub mod ScopedBlocks
 pub mod ScopedFrees
-pub mod ScopedFile
 pub mod Sights
 pub mod SpelledBlocks
 pub mod SpelledTops

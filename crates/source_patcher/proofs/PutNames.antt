@@ -1,5 +1,5 @@
 -- What the puts of a choice free has names that are spelled as names, where each put is in scope at a gap of the program.
-use Rattle.std.proofs.Common.{◌≡◌, ℕ, zero, suc, ◌<◌, Bool, true, false, ◌&&◌, List, [], ◌∷◌, map, slice_get, option_map, Option, Some, None, refl, sym, ap, subst, ◌∙◌}
+use Rattle.std.proofs.Common.{◌≡◌, ℕ, suc, ◌<◌, Bool, true, false, List, [], ◌∷◌, map, slice_get, option_map, Option, Some, None, refl, sym, ap, subst, ◌∙◌}
 use Rattle.std.specs.Prelude.{nat_lt}
 use Rattle.std.specs.List.{list_all}
 use Rattle.std.specs.Option.{option_and_then}
@@ -24,7 +24,7 @@ use Rattle.c_parser.specs.Grammar.{IsFile}
 use Rattle.c_parser.specs.Offsets.{AllHave}
 use Rattle.c_types.specs.declared.scope.StructRow.{StructRow}
 use Rattle.c_types.specs.Fits.{is_pointer}
-use Rattle.c_types.specs.Program.{IsProgram, definitions, field_def, made_program, start, struct_def, walked}
+use Rattle.c_types.specs.Program.{IsProgram, definitions, field_def, start, struct_def, walked}
 use Rattle.c_types.specs.Structs.{Fields}
 use Rattle.source_patcher.specs.Edit.{name_or_none, pointed_fields}
 use Rattle.source_patcher.specs.InScope.{AreInScope, HaveGaps, freed_type, struct_behind}

@@ -5,32 +5,25 @@ use Rattle.c_lexer.specs.declared.token.Tokens.{Tokens}
 use Rattle.c_lexer.specs.Outcome.{AreTokens}
 use Rattle.c_lexer.specs.Scan.{HasTokens}
 use Rattle.c_lexer.proofs.Edits.{tokens_unique}
-use Rattle.c_lexer.proofs.Order.{answered_ascend}
 use Rattle.c_tree.specs.Cycles.{IsCyclic}
 use Rattle.c_tree.specs.UserCalls.{user_calls}
 use Rattle.c_tree.specs.declared.choice.Choice.{Choice}
 use Rattle.c_tree.specs.declared.program.Program.{Program}
 use Rattle.c_tree.specs.declared.tree.Top.{Top}
 use Rattle.c_tree.specs.declared.tree.Tree.{Tree}
-use Rattle.c_parser.specs.Grammar.{Generates, IsFile}
-use Rattle.c_parser.specs.Offsets.{InOrder}
-use Rattle.c_parser.proofs.NumbersFit.{FitsInt, answered_fit}
-use Rattle.c_parser.proofs.OffsetOrder.{tops_in_order}
+use Rattle.c_parser.specs.Grammar.{IsFile}
 use Rattle.c_parser.proofs.Shorter.{top_shorter}
 use Rattle.c_types.specs.Calls.{main_name}
-use Rattle.c_types.specs.Program.{IsProgram, definitions, start}
+use Rattle.c_types.specs.Program.{IsProgram, definitions}
 use Rattle.c_types.specs.Tables.{place_of}
 use Rattle.source_patcher.specs.Edit.{edited}
 use Rattle.source_patcher.specs.InScope.{AreInScope, HaveGaps}
-use Rattle.source_patcher.specs.Reads.{HasProgram, Reads, ReadsWithin}
+use Rattle.source_patcher.specs.Reads.{ReadsWithin}
 use Rattle.source_patcher.specs.ReadsBack.{ReadsBack}
-use Rattle.source_patcher.specs.Refilled.{IsRefilledFile}
 use Rattle.source_patcher.proofs.BareCalls.{filled_acyclic}
 use Rattle.source_patcher.proofs.OffsetsRead.{ReadsAlike, reads_alike}
 use Rattle.source_patcher.proofs.PutNames.{have_names}
-use Rattle.source_patcher.proofs.ReadsFilled.{reads_filled}
-use Rattle.source_patcher.proofs.RefilledProgram.{file_seen}
-use Rattle.source_patcher.proofs.ScopedFile.{file_scoped}
+use Rattle.source_patcher.proofs.ScopedFile.{reads_in_scope}
 use Rattle.source_patcher.proofs.TextFits.{text_well_formed}
 
 pub has_tokens : (bytes : List ℕ) (tokens : Tokens) → AreTokens bytes tokens → HasTokens bytes tokens.list
@@ -69,13 +62,10 @@ reads_back bytes p choice ts has read scope gaps =
     let t = read.program.tree in
     let is = read.program.program in
     let file = read.program.generates.file in
-    let order : InOrder FitsInt 0 t.tops =
-    tops_in_order FitsInt (omega arith) (omega arith) file 0 (length bytes) (answered_ascend bytes read.tokens read.are) (answered_fit bytes read.tokens read.are) in
     let well = text_well_formed bytes read.tokens p read.are read.program in
     subst (λ (us : List Token). ReadsBack (edited bytes us p choice) p choice) (tokens_unique bytes read.tokens.list ts here has)
     (file_begins bytes read.tokens.list t p choice here file is
     (λ first rest scanned grammar.
     let names = have_names bytes (first ∷ rest) t p choice.puts scanned grammar is well scope gaps in
-    let seen : (ys : List Top) (d : IsRefilledFile p choice.puts (start (definitions t.tops)) t.tops ys) → file_seen p choice.puts d = λ ys d. file_scoped t p choice.puts ys is order scope d in
     alike_back (edited bytes (first ∷ rest) p choice) p choice read.program.acyclic
-    (reads_alike (edited bytes (first ∷ rest) p choice) p choice (reads_filled bytes first rest t p choice scanned grammar is names seen))))
+    (reads_alike (edited bytes (first ∷ rest) p choice) p choice (reads_in_scope bytes first rest t p choice scanned grammar is names scope))))

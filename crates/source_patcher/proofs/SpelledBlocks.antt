@@ -46,7 +46,7 @@ use Rattle.c_types.specs.declared.scope.Nesting.{Nesting}
 use Rattle.c_types.specs.declared.scope.Returned.{Returned}
 use Rattle.c_types.specs.declared.scope.Walk.{Walk}
 use Rattle.c_types.specs.declared.scope.Written.{Written}
-use Rattle.c_types.specs.Blocks.{in_loop, walked_arm, walked_block, walked_free, walked_gap, walked_head, walked_item, walked_start, walked_test, within}
+use Rattle.c_types.specs.Blocks.{in_loop, walked_arm, walked_block, walked_free, walked_head, walked_item, walked_start, walked_test, within}
 use Rattle.c_types.specs.Calls.{counted, user_call, walked_call}
 use Rattle.c_types.specs.Fits.{unless}
 use Rattle.c_types.specs.InTurn.{each, optional}

@@ -1,16 +1,14 @@
 -- The variables and fields that are declared in a file have names that are spelled as names.
-use Rattle.std.proofs.Common.{◌≡◌, ℕ, zero, suc, Bool, true, false, List, [], ◌∷◌, ◌++◌, length, map, slice_get, Option, Some, None, refl, sym, ap, subst, ◌∙◌}
+use Rattle.std.proofs.Common.{◌≡◌, ℕ, zero, suc, Bool, true, false, List, [], ◌∷◌, length, slice_get, Option, Some, None, refl, sym, subst, ◌∙◌}
 use Rattle.std.specs.Prelude.{nat_lt, slice_set, if◌then◌else◌}
 use Rattle.std.specs.List.{fold}
 use Rattle.c_lexer.specs.declared.token.Token.{Token}
 use Rattle.c_lexer.proofs.Lexemes.{Spelling}
 use Rattle.c_tree.specs.Flow.{flow_of}
 use Rattle.c_tree.specs.declared.choice.Put.{Put}
-use Rattle.c_tree.specs.declared.program.FunDef.{FunDef}
 use Rattle.c_tree.specs.declared.program.Home.{Home}
 use Rattle.c_tree.specs.declared.program.Home.TheVariants as home
 use Rattle.c_tree.specs.declared.program.Program.{Program}
-use Rattle.c_tree.specs.declared.program.VarDef.{VarDef}
 use Rattle.c_tree.specs.declared.tree.Base.{Base}
 use Rattle.c_tree.specs.declared.tree.Block.{Block}
 use Rattle.c_tree.specs.declared.tree.Body.{Body}
@@ -40,15 +38,15 @@ use Rattle.c_types.specs.declared.scope.Walk.{Walk}
 use Rattle.c_types.specs.declared.scope.Written.{Written}
 use Rattle.c_types.specs.Calls.{is_main}
 use Rattle.c_types.specs.Expressions.{judged}
-use Rattle.c_types.specs.Functions.{again_faults, body_nesting, brace_of, function_as, function_by, function_named, main_faults, marked, new_function, no_value, noted_again, slot_of, walked_fun, walked_heading, walked_param, with_body, with_fun, with_signature, with_slot}
+use Rattle.c_types.specs.Functions.{again_faults, body_nesting, brace_of, function_as, function_by, function_named, main_faults, marked, new_function, no_value, noted_again, slot_of, walked_fun, walked_heading, walked_param, with_body, with_slot}
 use Rattle.c_types.specs.InTurn.{each}
 use Rattle.c_types.specs.Program.{start, walked_from, walked_top}
-use Rattle.c_types.specs.Scopes.{closed, declared, named, named_by, noted, spec_type, text_or_none, type_faults, with_scope}
+use Rattle.c_types.specs.Scopes.{declared, named, named_by, noted, spec_type, text_or_none, type_faults, with_scope}
 use Rattle.c_types.specs.Structs.{Fields, alias_if, body_if, constant, field_more, field_named, field_turn, numbered, row_again, start_faults, start_noted, start_number, walked_body, walked_field, walked_fields, walked_global, walked_globals, walked_struct, with_row}
 use Rattle.c_types.specs.Tables.{found}
-use Rattle.c_types.proofs.Growing.{declared_grows, note_grows}
+use Rattle.c_types.proofs.Growing.{declared_grows}
 use Rattle.c_types.proofs.Numbering.{first_empty}
-use Rattle.c_types.proofs.Passing.{fields_grow, finished, head_types, headed, inside, inside_grows, left, made_of, no_home, numbered_grows, params_grow, slotted, types_grow, types_of, with_params}
+use Rattle.c_types.proofs.Passing.{fields_grow, finished, head_types, headed, inside, inside_grows, left, no_home, numbered_grows, slotted, types_grow, types_of, with_params}
 use Rattle.c_types.proofs.Standing.{Grows}
 use Rattle.source_patcher.proofs.Named.{AreNamed}
 use Rattle.source_patcher.proofs.SpelledBlocks.{SpecSpelled, VarSpelled, VarsSpelled, all_both, block_spelled, declared_spelled, named_rest, vars_kept, word_spelled}

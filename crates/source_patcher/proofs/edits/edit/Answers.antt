@@ -1,6 +1,5 @@
 -- The edited text is that of the changes, and reads back as it says.
 use Rattle.std.proofs.Common.{◌≡◌, ℕ, List, sym, subst, ◌∙◌}
-use Rattle.c_lexer.specs.declared.token.Token.{Token}
 use Rattle.c_lexer.specs.Scan.{HasTokens}
 use Rattle.source_patcher.specs.Edit.{edited}
 use Rattle.source_patcher.specs.Gaps.{AreInOrder}
