@@ -49,17 +49,17 @@ more_fields (r ∷ rows) n t are none good = by_head (same_name n r.0) refl none
     by_head false other none rest =
         (found_behind rows r.0 n t are.0 (nat_list_eq_equiv.symm r.0 n ∙ other), are.1, rest none good)
 
-by_older : (n : Word) (t : Written) (rows : Fields) (o : Option Written) (w : Walk) → found rows n.text ≡ o → AreFields rows → type_faults t ≡ [] → (field_more n t rows o w).0.faults ≡ [] → AreFields (field_more n t rows o w).1
-by_older n t rows None w is are good clean = more_fields rows n.text t are is good
-by_older n t rows (Some older) w is are good clean =
+older_fields : (n : Word) (t : Written) (rows : Fields) (o : Option Written) (w : Walk) → found rows n.text ≡ o → AreFields rows → type_faults t ≡ [] → (field_more n t rows o w).0.faults ≡ [] → AreFields (field_more n t rows o w).1
+older_fields n t rows None w is are good clean = more_fields rows n.text t are is good
+older_fields n t rows (Some older) w is are good clean =
     let no = second_empty w.faults _ clean in
     absurd cc
 
-by_name : (d : Spec) (t : Written) (rows : Fields) (o : Option Word) (w : Walk) → AreFields rows → type_faults t ≡ [] → (field_named d t rows o w).0.faults ≡ [] → AreFields (field_named d t rows o w).1
-by_name d t rows None w are good clean =
+named_fields : (d : Spec) (t : Written) (rows : Fields) (o : Option Word) (w : Walk) → AreFields rows → type_faults t ≡ [] → (field_named d t rows o w).0.faults ≡ [] → AreFields (field_named d t rows o w).1
+named_fields d t rows None w are good clean =
     let no = second_empty w.faults _ clean in
     absurd cc
-by_name d t rows (Some n) w are good clean = by_older n t rows (found rows n.text) w refl are good clean
+named_fields d t rows (Some n) w are good clean = older_fields n t rows (found rows n.text) w refl are good clean
 
 more_clean : (n : Word) (t : Written) (rows : Fields) (o : Option Written) (w : Walk) → (field_more n t rows o w).0.faults ≡ [] → w.faults ≡ []
 more_clean n t rows None w clean = clean
@@ -73,7 +73,7 @@ one_field : (d : Spec) (rows : Fields) (w : Walk) → AreFields rows → (walked
 one_field d rows w are clean =
     let r = spec_type d w.scope in
     let v = noted (type_faults r.1) (with_scope w r.0) in
-    by_name d r.1 rows d.name v are (second_empty w.faults (type_faults r.1) (named_clean d r.1 rows d.name v clean)) clean
+    named_fields d r.1 rows d.name v are (second_empty w.faults (type_faults r.1) (named_clean d r.1 rows d.name v clean)) clean
 
 pub fields_are : (ds : List Spec) (r : Walk × Fields) → AreFields r.1 → (fold field_turn r ds).0.faults ≡ [] → AreFields (fold field_turn r ds).1
 fields_are [] r are clean = are
@@ -87,9 +87,6 @@ is_good : (t : Written) → type_faults t ≡ [] → t ≡ Good (or_int t)
 is_good (Good t) none = refl
 is_good (Bad f) none = absurd cc
 
-same_itself : (n : List ℕ) → same_name n n ≡ true
-same_itself n = (bytes_decides n n).1 refl
-
 -- what a field's name leads to
 record Leads (rows : Fields) (k : ℕ) (r : List ℕ × Written) : Type 0 where
   place : place_of rows r.0 ≡ Some k
@@ -97,8 +94,8 @@ record Leads (rows : Fields) (k : ℕ) (r : List ℕ × Written) : Type 0 where
 
 first_leads : (q r : List ℕ × Written) (rows : Fields) → type_faults q.1 ≡ [] → q ≡ r → Leads (q ∷ rows) 0 r
 first_leads q r rows good same = subst (Leads (q ∷ rows) 0) same (record {
-  place = ap (λ (b : Bool). if b then Some 0 else option_map suc (place_of rows q.0)) (same_itself q.0);
-  type = ap (λ (b : Bool). if b then Some q.1 else found rows q.0) (same_itself q.0) ∙ ap Some (is_good q.1 good);
+  place = ap (λ (b : Bool). if b then Some 0 else option_map suc (place_of rows q.0)) ((bytes_decides q.0 q.0).1 refl);
+  type = ap (λ (b : Bool). if b then Some q.1 else found rows q.0) ((bytes_decides q.0 q.0).1 refl) ∙ ap Some (is_good q.1 good);
 })
 
 later_leads : (q r : List ℕ × Written) (rows : Fields) (k : ℕ) → found rows q.0 ≡ None → Leads rows k r → Leads (q ∷ rows) (suc k) r

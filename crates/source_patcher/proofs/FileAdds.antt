@@ -64,41 +64,41 @@ set_came R (x ∷ rows) zero came at has r (suc s) row b is body = Came.before i
 set_came R (x ∷ rows) (suc n) came at has r zero row b is body = Came.before is
 set_came R (x ∷ rows) (suc n) came at has r (suc s) row b is body = set_came R rows n came at has r s row b is body
 
--- neither variables nor structs
+-- neither variables nor structs are declared
 
-abbrev Still : Walk → Walk → Type 0
-Still w u = (u.vars ≡ w.vars) × (u.scope.structs ≡ w.scope.structs)
+abbrev DeclaresNone : Walk → Walk → Type 0
+DeclaresNone w u = (u.vars ≡ w.vars) × (u.scope.structs ≡ w.scope.structs)
 
-marked_still : (k : ℕ) (o : Option Signature) (w : Walk) → Still w (marked k o w)
-marked_still k None w = (refl, refl)
-marked_still k (Some g) w = (refl, refl)
+mark_declares_none : (k : ℕ) (o : Option Signature) (w : Walk) → DeclaresNone w (marked k o w)
+mark_declares_none k None w = (refl, refl)
+mark_declares_none k (Some g) w = (refl, refl)
 
-again_still : (n : Word) (body : Bool) (h : Heading) (o : Option Signature) (w : Walk) → Still w (noted_again n body h o w)
-again_still n body h None w = (refl, refl)
-again_still n body h (Some g) w = (refl, refl)
+again_declares_none : (n : Word) (body : Bool) (h : Heading) (o : Option Signature) (w : Walk) → DeclaresNone w (noted_again n body h o w)
+again_declares_none n body h None w = (refl, refl)
+again_declares_none n body h (Some g) w = (refl, refl)
 
-come_still : (body : Bool) (k : ℕ) (w : Walk) → Still w (with_body_marked body k w)
-come_still true k w = marked_still k (slice_get w.signatures k) w
-come_still false k w = (refl, refl)
+body_declares_none : (body : Bool) (k : ℕ) (w : Walk) → DeclaresNone w (with_body_marked body k w)
+body_declares_none true k w = mark_declares_none k (slice_get w.signatures k) w
+body_declares_none false k w = (refl, refl)
 
-as_still : (n : Word) (body : Bool) (h : Heading) (m : Meaning) (w : Walk) → Still w (function_as n body h m w)
-as_still n body h (meaning.Function k) w =
+meant_declares_none : (n : Word) (body : Bool) (h : Heading) (m : Meaning) (w : Walk) → DeclaresNone w (function_as n body h m w)
+meant_declares_none n body h (meaning.Function k) w =
     let o = slice_get w.signatures k in
-    let a = again_still n body h o w in
-    let b = come_still body k (noted_again n body h o w) in
+    let a = again_declares_none n body h o w in
+    let b = body_declares_none body k (noted_again n body h o w) in
     (b.0 ∙ a.0, b.1 ∙ a.1)
-as_still n body h (meaning.Bad f) w = (refl, refl)
-as_still n body h (meaning.Variable k t) w = (refl, refl)
-as_still n body h (meaning.Alias s) w = (refl, refl)
+meant_declares_none n body h (meaning.Bad f) w = (refl, refl)
+meant_declares_none n body h (meaning.Variable k t) w = (refl, refl)
+meant_declares_none n body h (meaning.Alias s) w = (refl, refl)
 
-by_still : (n : Word) (body : Bool) (h : Heading) (o : Option Entry) (w : Walk) → Still w (function_by n body h o w)
-by_still n body (heading.Bad f) None w = (refl, refl)
-by_still n body (heading.Good g) None w = (refl, refl)
-by_still n body h (Some e) w = as_still n body h e.meaning w
+entry_declares_none : (n : Word) (body : Bool) (h : Heading) (o : Option Entry) (w : Walk) → DeclaresNone w (function_by n body h o w)
+entry_declares_none n body (heading.Bad f) None w = (refl, refl)
+entry_declares_none n body (heading.Good g) None w = (refl, refl)
+entry_declares_none n body h (Some e) w = meant_declares_none n body h e.meaning w
 
-named_still : (h : Head) (body : Bool) (t : Heading) (o : Option Word) (w : Walk) → Still w (function_named h body t o w)
-named_still h body t None w = (refl, refl)
-named_still h body t (Some n) w = by_still n body t (found w.scope.names n.text) (noted (main_faults h n) w)
+name_declares_none : (h : Head) (body : Bool) (t : Heading) (o : Option Word) (w : Walk) → DeclaresNone w (function_named h body t o w)
+name_declares_none h body t None w = (refl, refl)
+name_declares_none h body t (Some n) w = entry_declares_none n body t (found w.scope.names n.text) (noted (main_faults h n) w)
 
 -- the slot of a result
 
@@ -219,7 +219,7 @@ module _ (L : VarDef → Bool) (R : StructRow → ℕ → Type 0) where
     pub heading_adds : (h : Head) (body : Bool) (w : Walk) → Adds L R w (walked_heading h body w).0
     heading_adds h body w =
         let v = head_types h w in
-        let s = named_still h body (types_of h w) h.result.name v in
+        let s = name_declares_none h body (types_of h w) h.result.name v in
         adds_both w v (walked_heading h body w).0 (local_adds w v (types_grow (home.Local f) h w))
         (adds_none v (walked_heading h body w).0 s.0 s.1 (name_remembers h body (types_of h w) h.result.name v).names)
 

@@ -2,6 +2,7 @@
 use Rattle.std.proofs.Common.{◌≡◌, ℕ, ◌+◌, ◌<◌, ◌≤◌, ℤ, Bool, true, false, ◌&&◌, ◌||◌, nat_lt, List, [], ◌∷◌, ◌++◌, drop, length, map, slice_get, Some, refl, sym, ap, subst, ◌∙◌, arith, append-nil, append_assoc, length-append}
 use Rattle.std.specs.Prelude.{not, nat_le, if◌then◌else◌}
 use Rattle.std.specs.List.{list_all}
+use Rattle.std.proofs.Math.Bool.{and-false}
 use Rattle.std.proofs.Math.Seq.{drop-append_seam}
 use Rattle.std.proofs.lemmas.Bool.{and_parts, le-ltb, leb-true}
 use Rattle.c_lexer.specs.declared.token.Kind.{Kind}
@@ -31,6 +32,7 @@ use Rattle.c_types.specs.Program.{IsProgram, definitions, start, struct_def, wal
 use Rattle.c_types.specs.Scopes.{naming}
 use Rattle.c_types.proofs.Functionwise.{definition_funs}
 use Rattle.c_types.proofs.Passing.{made_of, start_stands, top_passes, tops_pass}
+use Rattle.c_types.proofs.Rows.{get_first, get_last}
 use Rattle.c_types.proofs.Standing.{Onward, Standing}
 use Rattle.source_patcher.specs.Edit.{edited}
 use Rattle.source_patcher.specs.InScope.{AreInScope, functions_have, have_scope}
@@ -63,20 +65,12 @@ reached_on w u s more vars shown r = record {
 
 -- what is declared behind a function isn't counted before it
 
-and_none : (b : Bool) → (b && false) ≡ false
-and_none true = refl
-and_none false = refl
-
 not_before : (f from : ℕ) (d : FunDef) → d.at ≤ from → (v : VarDef) → is_late f from v ≡ true → stands_before f d v ≡ false
 not_before f from d le v late = by_function (is_from f v.home) late
   where
     by_function : (b : Bool) → (b || nat_le from v.at) ≡ true → (nat_lt v.at d.at && not b) ≡ false
-    by_function true late = and_none (nat_lt v.at d.at)
+    by_function true late = and-false (nat_lt v.at d.at)
     by_function false late = ap (λ (b : Bool). b && true) (le-ltb v.at d.at (let on = leb-true from v.at late in omega (arith, le, on)))
-
-seam : (xs : List VarDef) (y : VarDef) (ys : List VarDef) → slice_get (xs ++ y ∷ ys) (length xs) ≡ Some y
-seam [] y ys = refl
-seam (x ∷ xs) y ys = seam xs y ys
 
 either_reached : (w : Walk) (b : Bool) (r s : Declared) → Reached w r → Reached w s → Reached w (if b then r else s)
 either_reached w true r s first second = first
@@ -102,10 +96,12 @@ counts : (w : Walk) → GlobalsShown w → (f from : ℕ) (d : FunDef) → d.at 
 counts w globals f from d le more late [] counted s vars count shown =
     stops w f from d le more late s (record { counted = counted; others = []; vars = vars; count = count; shown = shown })
 counts w globals f from d le more late (v ∷ others) counted s vars count shown =
-    let is : slice_get w.vars s.count ≡ Some v = ap (slice_get w.vars) count ∙ ap (λ (vs : List VarDef). slice_get vs (length counted)) vars ∙ seam counted v others in
+    let whole : w.vars ≡ (counted ++ v ∷ []) ++ others = vars ∙ sym (append_assoc counted (v ∷ []) others) in
+    let is : slice_get w.vars s.count ≡ Some v =
+    ap (slice_get w.vars) count ∙ ap (λ (vs : List VarDef). slice_get vs (length counted)) whole ∙ get_first (counted ++ v ∷ []) others (length counted) v (get_last counted v) in
     let long : length (counted ++ v ∷ []) ≡ length counted + 1 = length-append counted (v ∷ []) in
     either_reached w (stands_before f d v) (up_to f d (others ++ more) (with_variable v.home s)) s
-    (counts w globals f from d le more late others (counted ++ v ∷ []) (with_variable v.home s) (vars ∙ sym (append_assoc counted (v ∷ []) others)) (ap (λ (k : ℕ). k + 1) count ∙ sym long)
+    (counts w globals f from d le more late others (counted ++ v ∷ []) (with_variable v.home s) whole (ap (λ (k : ℕ). k + 1) count ∙ sym long)
     (one_shown w globals s v shown is))
     (record { counted = counted; others = v ∷ others; vars = vars; count = count; shown = shown })
 
@@ -141,14 +137,14 @@ funs_from (x ∷ xs) w =
     let u = walked_top w x in
     funs_from xs u ∙ ap (λ (ds : List FunDef). ds ++ made_from u xs) (top_funs x w) ∙ append_assoc w.funs (made_by w x) (made_from u xs)
 
--- before a declaration of a file
-record Before (w : Walk) (s : Declared) : Type 0 where
+-- what is known before a declaration of a file, with what is counted of it
+record Stage (w : Walk) (s : Declared) : Type 0 where
   stands : Standing w
   known : Known w
   reached : Reached w s
 
-passes : (x : Top) (w : Walk) (s : Declared) → Before w s → Known (walked_top w x) → (R : StructRow → ℕ → Type 0) (L : VarDef → Bool) → Adds L R w (walked_top w x) → Before (walked_top w x) s
-passes x w s b known R L a = record {
+stage_on : (x : Top) (w : Walk) (s : Declared) → Stage w s → Known (walked_top w x) → (R : StructRow → ℕ → Type 0) (L : VarDef → Bool) → Adds L R w (walked_top w x) → Stage (walked_top w x) s
+stage_on x w s b known R L a = record {
   stands = (top_passes x w b.stands).standing;
   known = known;
   reached = reached_on w (walked_top w x) s a.more a.vars (all_added L R w (walked_top w x) a s.globals) b.reached;
@@ -172,7 +168,7 @@ module _ (Q : ℤ → Type 0) (p : Program) (puts : List Put) (end : Walk) (clea
     offset : naming h.result < to
     reached : Reached w (up_to (length w.funs) (made_of h b w) (drop s.count p.vars) s)
 
-  in_file : (h : Head) (b : Block) (w : Walk) (s : Declared) (xs : List Top) (to : ℕ) → naming h.result < to → AreOrdered Q to xs → walked_from (walked_fun h b w) xs ≡ end → Before w s → InFile h b w s to
+  in_file : (h : Head) (b : Block) (w : Walk) (s : Declared) (xs : List Top) (to : ℕ) → naming h.result < to → AreOrdered Q to xs → walked_from (walked_fun h b w) xs ≡ end → Stage w s → InFile h b w s to
   in_file h b w s xs to less order ends before =
       let f = length w.funs in
       let u = walked_fun h b w in
@@ -185,7 +181,7 @@ module _ (Q : ℤ → Type 0) (p : Program) (puts : List Put) (end : Walk) (clea
         reached = reaches w end p vars f to (made_of h b w) (omega (arith, less)) later before.known.shown s before.reached;
       }
 
-  file_scoped : {w : Walk} {xs ys : List Top} (d : IsRefilledFile p puts w xs ys) (from : ℕ) → AreOrdered Q from xs → walked_from w xs ≡ end → (s : Declared) → Before w s → Have (length w.funs) s w xs → file_seen p puts d
+  file_scoped : {w : Walk} {xs ys : List Top} (d : IsRefilledFile p puts w xs ys) (from : ℕ) → AreOrdered Q from xs → walked_from w xs ≡ end → (s : Declared) → Stage w s → Have (length w.funs) s w xs → file_seen p puts d
   unfolding top_seen
   file_scoped IsRefilledFile.done from order ends s before have = tt
   file_scoped {w} (IsRefilledFile.more {xs = xs} (IsRefilledTop.struct tag body alias) r) from order ends s before have =
@@ -193,17 +189,17 @@ module _ (Q : ℤ → Type 0) (p : Program) (puts : List Put) (end : Walk) (clea
       let u = walked_top w x in
       let quiet = (onward_to xs u (top_passes x w before.stands).standing ends).clean clean in
       let a = struct_known tag body alias w quiet in
-      (tt, file_scoped r order.0 order.3 ends s (passes x w s before (known_on w u a before.known) HasFields is_own a) (have_on s w u xs (struct_funs tag body alias w) have))
+      (tt, file_scoped r order.0 order.3 ends s (stage_on x w s before (known_on w u a before.known) HasFields is_own a) (have_on s w u xs (struct_funs tag body alias w) have))
   file_scoped {w} (IsRefilledFile.more {xs = xs} (IsRefilledTop.globals ds) r) from order ends s before have =
       let x = top.Globals ds in
       let u = walked_top w x in
       let quiet = (onward_to xs u (top_passes x w before.stands).standing ends).clean clean in
-      (tt, file_scoped r order.0 order.3 ends s (passes x w s before (known_globals ds w before.stands quiet before.known) HasFields any_variable (globals_adds ds w)) (have_on s w u xs (globals_funs ds w) have))
+      (tt, file_scoped r order.0 order.3 ends s (stage_on x w s before (known_globals ds w before.stands quiet before.known) HasFields any_variable (globals_adds ds w)) (have_on s w u xs (globals_funs ds w) have))
   file_scoped {w} (IsRefilledFile.more {xs = xs} (IsRefilledTop.prototype h) r) from order ends s before have =
       let x = top.Proto h in
       let u = walked_top w x in
       let a = heading_known h false w in
-      (tt, file_scoped r order.0 order.3 ends s (passes x w s before (known_on w u a before.known) HasFields is_own a) (have_on s w u xs (proto_funs h w) have))
+      (tt, file_scoped r order.0 order.3 ends s (stage_on x w s before (known_on w u a before.known) HasFields is_own a) (have_on s w u xs (proto_funs h w) have))
   file_scoped {w} (IsRefilledFile.more {xs = xs} (IsRefilledTop.function h {b = b} {c = c} brace d) r) from order ends s before have =
       let x = top.Fun h b in
       let f = length w.funs in
@@ -214,12 +210,12 @@ module _ (Q : ℤ → Type 0) (p : Program) (puts : List Put) (end : Walk) (clea
       let i = in_file h b w s xs to (naming_has (λ at. (from ≤ at) × (at < to)) h.result order.2.0.0).1 order.3 ends before in
       let parts = and_parts (have_scope (declarations p) puts m.at (function_place m here.globals)) (functions_have p puts (f + 1) here (made_from u xs)) have in
       let a = function_known h b w in
-      let next : Before w here = record { stands = before.stands; known = before.known; reached = i.reached } in (
+      let next : Stage w here = record { stands = before.stands; known = before.known; reached = i.reached } in (
         function_seen p puts end clean vars structs h b c w before.stands i.onward to i.offset i.later before.known here.globals i.reached.shown d parts.0,
-        file_scoped r to order.3 ends here (passes x w here next (known_on w u a before.known) HasFields is_own a) (subst (λ (k : ℕ). Have k here u xs) (sym (one_more h b w)) parts.1),
+        file_scoped r to order.3 ends here (stage_on x w here next (known_on w u a before.known) HasFields is_own a) (subst (λ (k : ℕ). Have k here u xs) (sym (one_more h b w)) parts.1),
       )
 
-nothing_known : (t : Tree) → Before (start (definitions t.tops)) (so_far 0 [])
+nothing_known : (t : Tree) → Stage (start (definitions t.tops)) (so_far 0 [])
 nothing_known t = record {
   stands = start_stands (definitions t.tops);
   known = record { shown = λ x v is global. absurd cc; fields = λ s row b is body. absurd cc };
