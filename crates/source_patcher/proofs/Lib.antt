@@ -7,9 +7,12 @@ pub mod Closing
 pub mod EditLaws
 pub mod Edited
 pub mod EditedTokens
+pub mod FieldRows
+pub mod FileAdds
 pub mod Framed
 pub mod FramedTops
 pub mod Inserts
+pub mod Later
 pub mod Named
 pub mod PutNames
 pub mod PutOrder
@@ -19,7 +22,9 @@ pub mod ReadsFilled
 pub mod RefilledProgram
 pub mod RefilledWalk
 pub mod ScopedBlocks
+pub mod ScopedFile
 pub mod ScopedFrees
+pub mod ScopedFunctions
 pub mod Sights
 pub mod SpelledBlocks
 pub mod SpelledTops
