@@ -21,10 +21,12 @@ pub mod ReadsBack
 pub mod ReadsFilled
 pub mod RefilledProgram
 pub mod RefilledWalk
+pub mod ScopeHas
 pub mod ScopedBlocks
 pub mod ScopedFile
 pub mod ScopedFrees
 pub mod ScopedFunctions
+pub mod ScopedPuts
 pub mod Sights
 pub mod SpelledBlocks
 pub mod SpelledTops
