@@ -14,6 +14,7 @@ pub mod Describing
 pub mod Views
 pub mod Truth
 pub mod Holding
+pub mod Chosen
 pub mod Cover
 pub mod Marks
 pub mod Aliases
