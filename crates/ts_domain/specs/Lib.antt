@@ -1,6 +1,7 @@
 pub mod Pointers
 pub mod Looks
 pub mod Deeds
+pub mod Ranges
 pub mod May
 pub mod Facts
 pub mod Path

@@ -4,6 +4,7 @@
 mod aliases;
 mod before;
 mod changes;
+mod chosen;
 mod deed;
 mod deeds;
 mod edges;
@@ -33,6 +34,7 @@ mod writes;
 pub use aliases::alias;
 pub use before::{Before, Given};
 pub use changes::Change;
+pub use chosen::{has_put, is_chosen};
 pub use deed::{Deed, Looked, Saying, Source};
 pub use deeds::is_null;
 pub use edges::action_deeds;
