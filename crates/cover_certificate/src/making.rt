@@ -116,7 +116,7 @@ fn lines_by(
 }
 
 fn ordered(lines: Seq<Line>) -> Result<Seq<Line>, Memory>
-    ensures permutation { IfOk result (λ ordered. IsPermutation lines.entry ordered) }
+    ensures permutation { IfOk result (λ ordered. IsPermutation lines ordered) }
     ensures sorted { IfOk result (λ ordered. IsSorted line_cmp ordered) }
 {
     let mut list = lines.into_vec();
@@ -131,7 +131,7 @@ fn is_same(x: &Line, y: &Line) -> bool
 }
 
 fn without_repeats(lines: Seq<Line>) -> Seq<Line>
-    ensures { result ≡ dedup is_same lines.entry }
+    ensures { result ≡ dedup is_same lines }
 {
     let mut list = lines.into_vec();
     list.dedup_by(|x, y| is_same(x, y));
