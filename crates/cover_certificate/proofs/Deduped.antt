@@ -1,13 +1,13 @@
 -- Sorted lists without repeats: each element stands before the next, and none is lost.
-use Rattle.std.proofs.Common.{◌≡◌, ℕ, zero, suc, ◌+◌, ◌<◌, ◌≤◌, Bool, true, false, cond, List, [], ◌∷◌, length, get_or, refl, ap, sym, ◌∙◌, subst, arith}
-use Rattle.std.proofs.lemmas.Bool.{true≢false, false≢true}
+use Rattle.std.proofs.Common.{◌≡◌, zero, suc, ◌+◌, Bool, true, false, cond, List, [], ◌∷◌, get_or, refl, ap, sym, ◌∙◌, arith}
+use Rattle.std.proofs.lemmas.Bool.{true≢false}
 use Rattle.std.specs.Cmp.{IsTotalOrder, alike_right}
 use Rattle.std.specs.List.{Contains, dedup, dedup_from}
 use Rattle.std.specs.List.Sorted.{IsSorted}
 use Rattle.std.specs.Ordering.{is_eq, is_lt, ordering_reverse}
 use Rattle.std.specs.declared.cmp.Ordering.{Ordering}
 use Rattle.std.specs.declared.cmp.Ordering.TheVariants.{Less, Equal, Greater}
-use Rattle.ts_domain.proofs.Members.{at_first, at_later}
+use Rattle.ts_domain.proofs.Members.{at_later}
 
 module _ {X : Type 0} (R : X → X → Ordering) where
   abbrev same : X → X → Bool
@@ -28,11 +28,12 @@ module _ {X : Type 0} (R : X → X → Ordering) where
   pub no_less : (xs : List X) → IsSorted R xs → NoLess xs
   no_less [] h = tt
   no_less (x ∷ []) h = tt
-  no_less (x ∷ y ∷ ys) h =
-      (h 0 x (omega arith) (omega arith),
-      no_less (y ∷ ys) (λ k d l m.
-      let on : suc (k + 1) ≡ suc k + 1 = omega arith in
-      ap (λ i. is_lt (R (get_or (x ∷ y ∷ ys) i d) (get_or (y ∷ ys) k d))) on ∙ h (suc k) d (omega arith) (omega arith)))
+  no_less (x ∷ y ∷ ys) h = (
+    h 0 x (omega arith) (omega arith),
+    no_less (y ∷ ys) (λ k d l m.
+        let on : suc (k + 1) ≡ suc k + 1 = omega arith in
+        ap (λ i. is_lt (R (get_or (x ∷ y ∷ ys) i d) (get_or (y ∷ ys) k d))) on ∙ h (suc k) d (omega arith) (omega arith)),
+  )
 
   -- the first one stays
   front_by : (b : Bool) (k x y : X) (ys : List X) → R k x ≡ Less → (Rises (dedup_from same x ys) → Rises (k ∷ dedup_from same x ys)) → Rises (cond b (dedup_from same x ys) (x ∷ dedup_from same y ys)) → Rises (k ∷ cond b (dedup_from same x ys) (x ∷ dedup_from same y ys))

@@ -1,13 +1,13 @@
 -- The marks of triples, in the order of their lines, make the certificate of a choice.
-use Rattle.std.proofs.Common.{◌≡◌, ◌↔◌, ℕ, zero, suc, ◌+◌, ◌-◌, ◌<◌, ◌≤◌, ◌&&◌, ◌||◌, nat_lt, cond, not, Bool, true, false, List, [], ◌∷◌, length, map, slice_get, get_or, Option, None, Some, refl, ap, sym, ◌∙◌, subst, arith, ⊎_elim}
-use Rattle.std.proofs.lemmas.Bool.{and_parts, and_from, cases_Bool, eq-eqb, lt-ltb, false≢true}
+use Rattle.std.proofs.Common.{◌≡◌, ℕ, zero, suc, ◌<◌, ◌&&◌, ◌||◌, nat_lt, cond, not, Bool, true, false, List, [], ◌∷◌, length, map, slice_get, Option, None, Some, refl, ap, sym, ◌∙◌, subst, arith}
+use Rattle.std.proofs.lemmas.Bool.{and_from, eq-eqb, lt-ltb, false≢true}
 use Rattle.std.proofs.lemmas.List.Sorted.{Contains-permutation, IsPermutation-sym}
 use Rattle.std.proofs.lemmas.Option.{slice_get_within}
-use Rattle.std.specs.List.{Contains, dedup, filter, find, list_all, list_any, range_with_len}
+use Rattle.std.specs.List.{Contains, dedup, find, list_all, list_any, range_with_len}
 use Rattle.std.specs.List.Sorted.{IsPermutation, IsSorted}
 use Rattle.std.specs.Option.{is_some}
 use Rattle.std.specs.Ordering.{is_lt}
-use Rattle.std.specs.declared.cmp.Ordering.TheVariants.{Less, Equal, Greater}
+use Rattle.std.specs.declared.cmp.Ordering.TheVariants.{Less, Equal}
 use Rattle.c_tree.specs.Typing.{has}
 use Rattle.c_tree.specs.declared.choice.Choice.{Choice}
 use Rattle.c_tree.specs.declared.choice.Put.{Put}
@@ -29,7 +29,6 @@ use Rattle.ts_domain.specs.Path.{IsPath}
 use Rattle.ts_domain.proofs.DerivedMarks.{derived_mark, derived_node, range_holds, IsShaped}
 use Rattle.ts_domain.proofs.Members.{all_from, at_first, at_later}
 use Rattle.cover_certificate.specs.declared.lines.Line.{Line}
-use Rattle.cover_certificate.specs.declared.types.Cert.{Cert}
 use Rattle.cover_certificate.specs.declared.types.CertMark.{CertMark}
 use Rattle.cover_certificate.specs.Lines.{chosen_places, is_same, line, line_by, line_cmp, AreLines}
 use Rattle.cover_certificate.specs.Making.{holds_chosen, mark_of, IsMade}
@@ -114,9 +113,10 @@ module _ (n : Names) (g : Graph) where
   marks_precede : (xs : List Line) → ((x : Line) → Contains xs x → IsLine n g x) → Rises line_cmp xs → Precede (mark_before (expressions n)) (map (λ (x : Line). x.mark) xs)
   marks_precede [] all h = tt
   marks_precede (x ∷ []) all h = tt
-  marks_precede (x ∷ y ∷ ys) all h =
-      (less_before x y (all x (at_first x (y ∷ ys))) (all y (at_later x y (y ∷ ys) (at_first y ys))) h.0,
-      marks_precede (y ∷ ys) (λ z c. all z (at_later x z (y ∷ ys) c)) h.1)
+  marks_precede (x ∷ y ∷ ys) all h = (
+    less_before x y (all x (at_first x (y ∷ ys))) (all y (at_later x y (y ∷ ys) (at_first y ys))) h.0,
+    marks_precede (y ∷ ys) (λ z c. all z (at_later x z (y ∷ ys) c)) h.1,
+  )
 
   apart_meets : (xs ys : List ℕ) → ((e : ℕ) → has_number xs e ≡ true → has_number ys e ≡ false) → not (meets xs ys) ≡ true
   apart_meets xs ys apart = ap (λ (o : Option ℕ). not (is_some o)) (find_none (has_number ys) xs apart)

@@ -1,6 +1,5 @@
 -- Sets of the numbers below a bound that pass a test, one number more.
 use Rattle.std.proofs.Common.{◌≡◌, ℕ, ◌+◌, Bool, cond, List, ap, ◌∙◌}
-use Rattle.std.specs.List.{filter, range_with_len}
 use Rattle.mf_set.specs.Numbers.{Numbers, with_number}
 use Rattle.ts_domain.specs.Marks.{passing}
 use Rattle.ts_domain.proofs.MarkLaws.{next_passing}

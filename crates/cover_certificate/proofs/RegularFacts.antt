@@ -1,11 +1,9 @@
 -- The facts of a graph are regular.
-use Rattle.std.proofs.Common.{◌≡◌, ◌≢◌, ◌⊎◌, ℕ, zero, suc, ◌+◌, ◌-◌, ◌<◌, ◌≤◌, ◌==◌, ◌&&◌, ◌||◌, nat_lt, eqb, Bool, true, false, List, [], ◌∷◌, length, slice_get, get_or, Option, None, Some, refl, ap, sym, ◌∙◌, subst, arith, ⊎_elim}
-use Rattle.std.proofs.lemmas.Bool.{and_from, eq-eqb, lt-ltb, or_left}
-use Rattle.std.proofs.lemmas.List.{get_or_default}
+use Rattle.std.proofs.Common.{◌≡◌, ◌≢◌, ℕ, suc, ◌==◌, ◌&&◌, nat_lt, true, List, [], ◌∷◌, length, refl, ap, sym, ◌∙◌, arith, ⊎_elim}
+use Rattle.std.proofs.lemmas.Bool.{and_from, eq-eqb, lt-ltb}
 use Rattle.std.proofs.lemmas.List.Elements.{All-contains}
-use Rattle.std.specs.List.{AllPairs, Contains, list_all, list_any, range_with_len}
+use Rattle.std.specs.List.{AllPairs, Contains, list_all}
 use Rattle.std.specs.Cmp.{nat_cmp_is}
-use Rattle.std.specs.Ordering.{nat_cmp}
 use Rattle.std.specs.declared.cmp.Ordering.{Ordering}
 use Rattle.std.specs.declared.cmp.Ordering.TheVariants.{Less, Equal}
 use Rattle.c_tree.specs.Typing.{has}
@@ -17,12 +15,12 @@ use Rattle.ts_domain.specs.declared.facts.May.{May}
 use Rattle.ts_domain.specs.declared.facts.Path.{Path}
 use Rattle.ts_domain.specs.declared.names.Names.{Names}
 use Rattle.ts_domain.specs.Facts.{fact_count}
-use Rattle.ts_domain.specs.May.{flows_into, precedes, sets_field, struct_of, Flows, FieldOf, IsMay}
+use Rattle.ts_domain.specs.May.{flows_into, precedes, sets_field, Flows, FieldOf, IsMay}
 use Rattle.ts_domain.specs.Path.{IsPath}
 use Rattle.ts_domain.specs.Pointers.{field_type, is_pointer}
 use Rattle.ts_domain.proofs.Members.{all_from, any_from}
 use Rattle.ts_domain.proofs.RangeLaws.{done_in_range}
-use Rattle.cover_certificate.specs.Regular.{are_facts, are_fields, are_vars, ascends, by_order, field_before, has_room, is_field, is_pointer_field, next_after}
+use Rattle.cover_certificate.specs.Regular.{are_facts, are_fields, are_vars, ascends, by_order, field_before, has_room, is_field, is_pointer_field}
 use Rattle.cover_certificate.proofs.Ascents.{precede_ascends, Precede}
 
 pub vars_regular : (n : Names) (g : Graph) (m : May) → IsMay n g m → are_vars n m ≡ true

@@ -29,7 +29,11 @@ fn compare_sets(x: &BitSet, y: &BitSet) -> Ordering
         }
         from = number + 1;
     }
-    if y.next_from(from).is_some() { Ordering::Less } else { Ordering::Equal }
+    if y.next_from(from).is_some() {
+        Ordering::Less
+    } else {
+        Ordering::Equal
+    }
 }
 
 fn compare_open(x: &Line, y: &Line) -> Ordering

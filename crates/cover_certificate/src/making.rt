@@ -7,7 +7,7 @@ ghost use Rattle.c_graph.specs.Ways.{LeadsToNodes};
 ghost use Rattle.mf_set.specs.Numbers.{first_common, with_number};
 ghost use Rattle.ts_domain.specs.Chosen.{is_chosen};
 ghost use Rattle.ts_domain.specs.Derived.{AreDerived};
-ghost use Rattle.ts_domain.specs.Marks.{expressions, passing};
+ghost use Rattle.ts_domain.specs.Marks.{passing};
 ghost use Rattle.ts_domain.specs.May.{IsMay};
 ghost use Rattle.ts_domain.specs.Path.{IsPath};
 ghost use Rattle.cover_certificate.specs.declared.lines.Line.{Line};
@@ -24,7 +24,7 @@ use mf_list::{Memory, Seq};
 use mf_set::BitSet;
 use std::alloc::Global;
 use std::cmp::Ordering;
-use ts_domain::{Derived, Facts, Mark, Names, Triple, copied, is_chosen};
+use ts_domain::{Derived, Facts, Mark, Names, Triple, copied, expressions, is_chosen};
 
 fn insert_if(set: &mut BitSet, passes: bool, number: usize)
     requires { number < set.old.room }
@@ -64,14 +64,6 @@ fn open_below(alloc: Global, count: usize, mark: &Mark) -> Result<BitSet, Memory
     Ok(set)
 }
 
-fn expressions(names: &Names) -> usize
-    ensures { result ≡ expressions names.now }
-{
-    let vars = names.vars.as_slice();
-    let fields = names.fields.as_slice();
-    vars.len() + fields.len()
-}
-
 fn is_common(one: &BitSet, other: &BitSet) -> bool
     ensures { result ≡ is_some (first_common one.now.items other.now.items) }
 {
@@ -79,12 +71,7 @@ fn is_common(one: &BitSet, other: &BitSet) -> bool
 }
 
 /// The line of a triple, by the places of the chosen puts.
-fn line_by(
-    alloc: Global,
-    names: &Names,
-    chosen: &BitSet,
-    triple: &Triple,
-) -> Result<Line, Memory>
+fn line_by(alloc: Global, names: &Names, chosen: &BitSet, triple: &Triple) -> Result<Line, Memory>
     ensures { IfOk result (λ line. line ≡ line_by names.now chosen.now.items triple.now) }
 {
     let undecided = open_below(alloc, expressions(names), &triple.mark)?;

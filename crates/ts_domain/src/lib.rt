@@ -51,7 +51,7 @@ pub use naming::number;
 pub use numbering::{pointer_fields, pointer_vars, pointing_fields, sites_of};
 pub use pointers::{Pointer, field_place, field_type, is_pointer, place_of};
 pub use posts::{born, deeds_born, deeds_post, post};
-pub use redraw::{copied, verdict};
+pub use redraw::{copied, expressions, verdict};
 pub use rows::{row, rows_of};
 pub use sites::{field_at, flows, makes_struct, struct_of};
 pub use splits::split;

@@ -1,4 +1,4 @@
-use Rattle.std.proofs.Common.{◌≡◌, ℕ, ◌+◌, Bool, ap, sym, ◌∙◌}
+use Rattle.std.proofs.Common.{◌+◌, ap, sym, ◌∙◌}
 use Rattle.std.specs.Option.{is_some}
 use Rattle.mf_set.specs.Numbers.{numbers_from}
 use Rattle.cover_certificate.proofs.SetOrder.{is_equal, is_greater, is_less, whole}

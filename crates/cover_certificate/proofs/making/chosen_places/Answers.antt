@@ -1,7 +1,5 @@
-use Rattle.std.proofs.Common.{rules, ◌≡◌, length, sym, ◌∙◌}
-use Rattle.mf_set.specs.Numbers.{Numbers, with_number}
+use Rattle.std.proofs.Common.{rules, length}
 use Rattle.ts_domain.specs.Chosen.{is_chosen}
-use Rattle.ts_domain.specs.Marks.{passing}
 use Rattle.cover_certificate.proofs.PassingLaws.{passing_more, InsertsIf}
 use Rattle.cover_certificate.proofs.making.chosen_places.Goals as goal
 

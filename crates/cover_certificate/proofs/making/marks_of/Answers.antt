@@ -1,9 +1,7 @@
 use Rattle.std.proofs.Common.{rules, ◌≡◌, length, map, ap, ◌∙◌}
-use Rattle.std.specs.List.{dedup}
 use Rattle.ts_domain.specs.Chosen.{is_chosen}
 use Rattle.ts_domain.specs.Marks.{passing}
 use Rattle.cover_certificate.specs.declared.lines.Line.{Line}
-use Rattle.cover_certificate.specs.Lines.{is_same}
 use Rattle.cover_certificate.proofs.MadeLaws.{lines_done}
 use Rattle.cover_certificate.proofs.making.marks_of.Goals as goal
 

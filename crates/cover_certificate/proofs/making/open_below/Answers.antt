@@ -1,4 +1,4 @@
-use Rattle.std.proofs.Common.{rules, ◌≡◌, sym, ◌∙◌}
+use Rattle.std.proofs.Common.{rules}
 use Rattle.cover_certificate.specs.Regular.{is_open}
 use Rattle.cover_certificate.proofs.PassingLaws.{passing_more, InsertsIf}
 use Rattle.cover_certificate.proofs.making.open_below.Goals as goal

@@ -1,5 +1,5 @@
 -- The sort's order is that of lines.
-use Rattle.std.proofs.Common.{rules, of_calls, ap}
+use Rattle.std.proofs.Common.{rules, of_calls}
 use Rattle.std.proofs.lemmas.Fn.{always_returns_same}
 use Rattle.std.proofs.lemmas.List.Sorted.{ranks_by}
 use Rattle.std.specs.Ordering.{is_lt}
