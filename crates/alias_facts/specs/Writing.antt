@@ -1,5 +1,5 @@
 -- What a write does to a table, and a round over all writes.
-use Rattle.std.specs.Prelude.{◌≡◌, ℕ, ◌<◌, ◌==◌, ◌&&◌, ◌||◌, Bool, true, false, List, length}
+use Rattle.std.specs.Prelude.{◌≡◌, ℕ, ◌<◌, ◌==◌, ◌&&◌, ◌||◌, Bool, false, List, length}
 use Rattle.std.specs.List.{All}
 use Rattle.c_graph.specs.declared.graph.Graph.{Graph}
 use Rattle.mf_set.specs.Numbers.{has as has_number}

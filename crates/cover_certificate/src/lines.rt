@@ -1,5 +1,5 @@
 // The lines of marks, and their order.
-ghost use Rattle.std.specs.Prelude.{◌≡◌, IfOk};
+ghost use Rattle.std.specs.Prelude.{◌≡◌};
 ghost use Rattle.std.specs.Cmp.Lexicographic.{slice_cmp};
 ghost use Rattle.std.specs.Ordering.{nat_cmp};
 ghost use Rattle.cover_certificate.specs.Lines.{held_cmp, line_cmp, open_cmp, site_cmp};

@@ -1,6 +1,6 @@
 // The certificate of a choice.
 ghost use Rattle.std.specs.Prelude.{◌≡◌, ◌<◌, cond, length, map, IfOk, IsPermutation, IsSorted};
-ghost use Rattle.std.specs.List.{dedup, filter, range_with_len};
+ghost use Rattle.std.specs.List.{dedup};
 ghost use Rattle.std.specs.Option.{is_some};
 ghost use Rattle.c_tree.specs.Fill.{IsAscending};
 ghost use Rattle.c_graph.specs.Ways.{LeadsToNodes};

@@ -5,7 +5,6 @@ use Rattle.std.proofs.lemmas.Option.{slice_get_within}
 use Rattle.std.specs.List.{Contains, filter, list_all, list_any, range_with_len}
 use Rattle.c_tree.specs.Typing.{has}
 use Rattle.c_tree.specs.declared.choice.Choice.{Choice}
-use Rattle.c_tree.specs.declared.choice.Put.{Put}
 use Rattle.c_graph.specs.declared.graph.Graph.{Graph}
 use Rattle.mf_set.specs.Numbers.{Numbers, has as has_number, IsAscendingFrom, IsSet}
 use Rattle.mf_set.proofs.NumberLaws.{has_from_low}

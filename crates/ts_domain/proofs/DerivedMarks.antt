@@ -1,20 +1,19 @@
 -- The marks of all that is derived: their nodes and sites exist, their sets have room for all expressions, and no expression is in both.
-use Rattle.std.proofs.Common.{◌≡◌, ℕ, zero, suc, ◌+◌, ◌<◌, ◌≤◌, ◌&&◌, ◌||◌, ⊎_elim, ◌==◌, not, Bool, true, false, eqb, cond, List, [], ◌∷◌, ◌++◌, length, map, fold, slice_get, option_map, Option, None, Some, refl, ap, sym, ◌∙◌, subst, arith}
+use Rattle.std.proofs.Common.{◌≡◌, ℕ, zero, suc, ◌+◌, ◌<◌, ◌≤◌, ◌&&◌, ⊎_elim, ◌==◌, not, Bool, true, false, eqb, cond, List, [], ◌∷◌, ◌++◌, length, map, fold, option_map, Option, None, Some, refl, sym, ◌∙◌, subst, arith}
 use Rattle.std.proofs.lemmas.Bool.{and_parts, cases_eq, eq-eqb, eqb-true, false≢true, or_cases, or_left, or_right}
 use Rattle.std.proofs.lemmas.List.Elements.{All-contains}
 use Rattle.std.proofs.lemmas.List.Quantifiers.{position-Some}
-use Rattle.std.specs.List.{Contains, filter, list_any, range_with_len}
+use Rattle.std.specs.List.{Contains, list_any, range_with_len}
 use Rattle.call_contexts.proofs.Has.{Has, first, later, contains_has}
 use Rattle.c_graph.specs.declared.graph.Edge.{Edge}
 use Rattle.c_graph.specs.declared.graph.Graph.{Graph}
 use Rattle.c_graph.specs.declared.graph.Way.{Way}
 use Rattle.c_graph.specs.declared.graph.Way.TheVariants as way
 use Rattle.c_graph.specs.Ways.{LeadsToNodes}
-use Rattle.mf_set.specs.Numbers.{Numbers, has as has_number, IsAscendingFrom, IsSet}
+use Rattle.mf_set.specs.Numbers.{has as has_number, IsAscendingFrom, IsSet}
 use Rattle.mf_set.proofs.NumberLaws.{has-filter, IsAscendingFrom-filter}
 use Rattle.ts_domain.specs.declared.deed.Deed.{Deed}
 use Rattle.ts_domain.specs.declared.deed.Deed.TheVariants.{Reads, Follows, Says, Sets, SetsField}
-use Rattle.ts_domain.specs.declared.deed.Source.{Source}
 use Rattle.ts_domain.specs.declared.entry.Entry.{Entry}
 use Rattle.ts_domain.specs.declared.facts.Facts.{Facts}
 use Rattle.ts_domain.specs.declared.marks.Mark.{Mark}
@@ -28,8 +27,8 @@ use Rattle.ts_domain.specs.declared.triples.Triple.{Triple}
 use Rattle.ts_domain.specs.Deeds.{edge_deeds, site_of}
 use Rattle.ts_domain.specs.Derived.{starts, follows, IsDerived}
 use Rattle.ts_domain.specs.Marks.{Knowledge, decided, expressions, flows, is_no, is_yes, marked, only_if, passing, split_by, splits, step, verdict}
-use Rattle.ts_domain.specs.MarkWrites.{birth, birth_writes, is_itself, set_mark, set_verdict, settled, settled_verdict, source_verdict, unborn, written_mark}
-use Rattle.ts_domain.specs.Post.{at_edge, born, counted, deed_entries, deeds_post, excludes, first_entry, last_entries, last_entry, leaves_gap, made_site, post, read_entries, read_entry, step_of, turn, turns, with_entries, with_entry}
+use Rattle.ts_domain.specs.MarkWrites.{birth, birth_writes, is_itself, set_verdict, settled, settled_verdict, source_verdict, unborn, written_mark}
+use Rattle.ts_domain.specs.Post.{at_edge, born, counted, deed_entries, deeds_post, excludes, first_entry, last_entries, last_entry, leaves_gap, made_site, post, read_entry, step_of, turn, turns, with_entries, with_entry}
 use Rattle.ts_domain.specs.SameEntries.{same_entry}
 
 -- a mark of a site that exists, its two sets those of expressions, with none in both

@@ -1,5 +1,5 @@
 -- What deeds write is in range.
-use Rattle.std.specs.Prelude.{◌≡◌, ℕ, ◌<◌, Bool, true, List, length}
+use Rattle.std.specs.Prelude.{◌≡◌, ℕ, ◌<◌, true, length}
 use Rattle.c_tree.specs.Typing.{has}
 use Rattle.ts_domain.specs.declared.deed.Deed.{Deed}
 use Rattle.ts_domain.specs.declared.deed.Deed.TheVariants.{Reads, Follows, Says, Sets, SetsField}
