@@ -3,5 +3,4 @@ pub mod GrowthLaws
 pub mod FoundLaws
 pub mod WritingLaws
 pub mod WriteLaws
-pub mod RangeLaws
 pub mod AnswerLaws

@@ -13,10 +13,11 @@ use Rattle.ts_domain.specs.declared.deed.Deed.TheVariants.{Reads, Follows, Says,
 use Rattle.ts_domain.specs.declared.names.Names.{Names}
 use Rattle.ts_domain.specs.Deeds.{edge_deeds}
 use Rattle.ts_domain.specs.May.{IsDone}
+use Rattle.ts_domain.specs.Ranges.{IsInRange}
 use Rattle.alias_facts.specs.declared.table.Table.{Table}
 use Rattle.alias_facts.specs.Flow.{IsClosed, cell_items, in_source, var_items, writes_cell}
 use Rattle.alias_facts.specs.Writes.{FieldFits, IsBound, all_writes, written, writes_in}
-use Rattle.alias_facts.specs.Writing.{DeedFits, IsApplied, IsInRange}
+use Rattle.alias_facts.specs.Writing.{DeedFits, IsApplied}
 
 -- lists
 

@@ -1,7 +1,5 @@
 -- Tables that grow: their rooms, how many sites they could still get, and what joining more sites to one of their sets does.
 use Rattle.std.specs.Prelude.{◌≡◌, ℕ, ◌+◌, ◌-◌, ◌<◌, ◌==◌, ◌&&◌, ◌||◌, Bool, true, false, List, [], ◌∷◌, length, slice_get, Some}
-use Rattle.ts_domain.specs.declared.deed.Source.{Source}
-use Rattle.ts_domain.specs.declared.deed.Source.TheVariants.{Content, Null, New, Undef}
 use Rattle.mf_set.specs.Numbers.{Numbers, has as has_number}
 use Rattle.alias_facts.specs.declared.table.Table.{Table}
 use Rattle.alias_facts.specs.Flow.{cell_items, items_of, var_items}
@@ -68,10 +66,3 @@ pub record IsFound (limit : ℕ) (test : ℕ → Bool) (x : Numbers) : Type 0 wh
 pub record Adds (more : List ℕ) (old new : Numbers) : Type 0 where
   pub room : new.room ≡ old.room
   pub items : (s : ℕ) → has_number new.items s ≡ (has_number old.items s || has_number more s)
-
--- a site that is made is one of so many
-abbrev pub SourceFits : ℕ → Source → Type 0
-SourceFits count (New t) = t < count
-SourceFits count (Content l) = Unit {0}
-SourceFits count Null = Unit {0}
-SourceFits count Undef = Unit {0}

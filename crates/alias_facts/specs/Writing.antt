@@ -1,17 +1,16 @@
 -- What a write does to a table, and a round over all writes.
-use Rattle.std.specs.Prelude.{◌≡◌, ℕ, ◌<◌, ◌==◌, ◌&&◌, ◌||◌, Bool, true, false, List, length}
+use Rattle.std.specs.Prelude.{◌≡◌, ℕ, ◌<◌, ◌==◌, ◌&&◌, ◌||◌, Bool, false, List, length}
 use Rattle.std.specs.List.{All}
-use Rattle.c_tree.specs.Typing.{has}
 use Rattle.c_graph.specs.declared.graph.Graph.{Graph}
 use Rattle.mf_set.specs.Numbers.{has as has_number}
 use Rattle.ts_domain.specs.declared.deed.Deed.{Deed}
 use Rattle.ts_domain.specs.declared.deed.Deed.TheVariants.{Reads, Follows, Says, Sets, SetsField}
 use Rattle.ts_domain.specs.declared.names.Names.{Names}
-use Rattle.ts_domain.specs.Pointers.{field_type, is_pointer}
+use Rattle.ts_domain.specs.Ranges.{SourceFits}
 use Rattle.alias_facts.specs.declared.bounds.Bounds.{Bounds}
 use Rattle.alias_facts.specs.declared.table.Table.{Table}
 use Rattle.alias_facts.specs.Flow.{IsFieldSetBy, IsSetBy, IsSound, cell_items, is_of_struct}
-use Rattle.alias_facts.specs.Growth.{Grows, IsSized, SourceFits}
+use Rattle.alias_facts.specs.Growth.{Grows, IsSized}
 
 -- what a deed writes is within the bounds
 abbrev pub DeedFits : Bounds → Deed → Type 0
@@ -20,14 +19,6 @@ DeedFits b (Follows k) = Unit {0}
 DeedFits b (Says s) = Unit {0}
 DeedFits b (Sets k v) = (k < b.vars) × SourceFits b.sites v
 DeedFits b (SetsField r c f v) = (f < b.fields) × SourceFits b.sites v
-
--- what a deed writes is a pointer variable or a pointer field, and an object that it takes is of one of the sites
-abbrev pub IsInRange : Names → Deed → Type 0
-IsInRange n (Reads r noted) = Unit {0}
-IsInRange n (Follows k) = Unit {0}
-IsInRange n (Says s) = Unit {0}
-IsInRange n (Sets k v) = (k < length n.vars) × SourceFits (length n.sites) v
-IsInRange n (SetsField r c f v) = (has is_pointer (field_type n c f) ≡ true) × SourceFits (length n.sites) v
 
 -- what a deed adds to a table
 abbrev pub IsApplied : Names → Graph → Deed → Table → Table → Type 0

@@ -5,7 +5,8 @@ ghost use Rattle.mf_set.specs.Numbers.{has};
 ghost use Rattle.c_graph.specs.declared.graph.Node.{Node};
 ghost use Rattle.ts_domain.specs.May.{read_of, struct_of, struct_of_action, struct_of_kind, struct_of_size};
 ghost use Rattle.alias_facts.specs.Flow.{cell_at, cell_items, in_cells, in_field, in_found, in_source, is_of_struct, sites_of_struct, var_items};
-ghost use Rattle.alias_facts.specs.Growth.{Adds, IsFound, IsSized, SourceFits};
+ghost use Rattle.ts_domain.specs.Ranges.{SourceFits};
+ghost use Rattle.alias_facts.specs.Growth.{Adds, IsFound, IsSized};
 
 use crate::table::Table;
 use c_graph::{Action, Graph, NodeKind};

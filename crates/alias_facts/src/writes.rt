@@ -2,7 +2,7 @@
 ghost use Rattle.std.specs.Prelude.{◌≡◌, ◌++◌, ◌<◌, IfOk, OnOk};
 ghost use Rattle.std.specs.List.{All, flat_map};
 ghost use Rattle.alias_facts.specs.Writes.{FieldFits, IsBound, written, writes_in, writes_of};
-ghost use Rattle.alias_facts.specs.Writing.{IsInRange};
+ghost use Rattle.ts_domain.specs.Ranges.{IsInRange};
 
 use crate::bounds::Bounds;
 use mf_list::{Memory, Seq};

@@ -2,7 +2,8 @@
 ghost use Rattle.std.specs.Prelude.{◌≡◌, [], ◌∷◌, ◌<◌, ◌≤◌, length, IfOk, OnOk};
 ghost use Rattle.std.specs.List.{All};
 ghost use Rattle.ts_domain.specs.May.{IsDone};
-ghost use Rattle.alias_facts.specs.Growth.{IsSized, SourceFits};
+ghost use Rattle.ts_domain.specs.Ranges.{SourceFits};
+ghost use Rattle.alias_facts.specs.Growth.{IsSized};
 ghost use Rattle.alias_facts.specs.Writing.{Applies, DeedFits, Rounds, Settles, TargetsSet};
 
 use crate::following::follow;

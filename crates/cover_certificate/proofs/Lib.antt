@@ -1,2 +1,9 @@
 pub mod GapPuts
 pub mod FilledPosts
+mod PassingLaws
+mod Ascents
+mod Deduped
+mod SetOrder
+mod LineLaws
+mod RegularFacts
+mod MadeLaws

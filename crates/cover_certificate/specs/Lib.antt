@@ -1,2 +1,4 @@
 pub mod Regular
 pub mod Closed
+pub mod Making
+pub mod Lines

@@ -9,12 +9,14 @@ use Rattle.c_tree.specs.declared.choice.Put.{Put}
 use Rattle.mf_set.specs.Numbers.{Numbers, has as has_number}
 use Rattle.sat_log.specs.Clauses.{MakesTrue, Satisfies, SatisfiesClause}
 use Rattle.sat_log.specs.declared.problem.Lit.{Lit}
-use Rattle.ts_domain.specs.Cover.{IsChosen}
 use Rattle.ts_domain.specs.declared.triples.Triple.{Triple}
+use Rattle.ts_domain.specs.Chosen.{is_chosen}
+use Rattle.ts_domain.specs.Cover.{IsChosen}
+use Rattle.ts_domain.proofs.ChosenLaws.{chosen, is_so}
 use Rattle.cover_problem.specs.declared.types.Problem.{Problem}
-use Rattle.cover_problem.specs.Covering.{is_chosen, is_held, is_usable}
+use Rattle.cover_problem.specs.Covering.{is_held, is_usable}
 use Rattle.cover_problem.specs.Problem.{AtExit, HasRooms, IsCoverOf}
-use Rattle.cover_problem.proofs.CoverLaws.{chosen, is_so, not_true}
+use Rattle.cover_problem.proofs.CoverLaws.{not_true}
 use Rattle.cover_problem.proofs.Members.{any_at, any_from, at_first, at_later, in_flat_map, of_flat_map}
 use Rattle.cover_clauses.specs.Clauses.{bits_of, choice_of, is_true_at, literal, not_both, one_of, put_at, put_if, usable_puts, variable, IsClause, of_exit, of_pair, of_triple, IsOnce}
 use Rattle.cover_clauses.proofs.Ranks.{ranked}

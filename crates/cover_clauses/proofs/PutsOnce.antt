@@ -1,75 +1,17 @@
 -- Puts that ascend: none stands there twice, and a choice of them ascends.
-use Rattle.std.proofs.Common.{◌≡◌, ⊎_elim, ℕ, zero, suc, ◌+◌, ◌<◌, ◌≤◌, ◌==◌, ◌&&◌, ◌||◌, Bool, true, eqb, ltb, List, [], ◌∷◌, ◌++◌, length, slice_get, Option, Some, None, refl, ap, sym, subst, ◌∙◌, arith}
-use Rattle.std.proofs.lemmas.Bool.{and_parts, and_from, or_cases, or_left, or_right, eqb-true, eq-eqb, ltb-true, lt-ltb, false≢true}
+use Rattle.std.proofs.Common.{◌≡◌, ℕ, zero, suc, ◌+◌, ◌<◌, ◌≤◌, Bool, true, List, [], ◌∷◌, ◌++◌, length, slice_get, Option, Some, None, refl, ap, sym, subst, arith}
+use Rattle.std.proofs.lemmas.Bool.{and_from}
 use Rattle.std.specs.List.{Contains, filter, flat_map, range_with_len}
-use Rattle.c_tree.specs.Fill.{ascends, precedes, precedes_in_gap, IsAscending}
+use Rattle.c_tree.specs.Fill.{ascends, precedes, IsAscending}
 use Rattle.c_tree.specs.declared.choice.Put.{Put}
 use Rattle.mf_set.specs.Numbers.{IsAscendingFrom}
 use Rattle.mf_set.proofs.NumberLaws.{has_from_low, IsAscendingFrom-filter}
+use Rattle.ts_domain.proofs.Precedence.{ascends_rest, precedes_never, precedes_rest}
 use Rattle.cover_problem.specs.declared.types.Problem.{Problem}
 use Rattle.cover_problem.specs.Covering.{is_usable}
 use Rattle.cover_problem.proofs.Members.{at_first, of_flat_map}
 use Rattle.cover_clauses.specs.Clauses.{choice_of, is_true_at, put_at, put_if, usable_puts, IsOnce, once_none, once_more}
 use Rattle.cover_clauses.proofs.Elements.{as_has, listed_at}
-
-less_on : (x y z : ℕ) → ltb x y ≡ true → ltb y z ≡ true → ltb x z ≡ true
-less_on x y z a b = let l : x < y = ltb-true x y a in let m : y < z = ltb-true y z b in lt-ltb x z (omega arith)
-
--- a first part decides, and where it is equal a second one
-lexical : (x y z : ℕ) (r s t : Bool) → (r ≡ true → s ≡ true → t ≡ true) → (ltb x y || (x == y && r)) ≡ true → (ltb y z || (y == z && s)) ≡ true → (ltb x z || (x == z && t)) ≡ true
-lexical x y z r s t on a b =
-    ⊎_elim
-    (λ l. ⊎_elim
-    (λ m. or_left (ltb x z) (x == z && t) (less_on x y z l m))
-    (λ m. let both = and_parts (eqb y z) s m in or_left (ltb x z) (x == z && t) (subst (λ n. ltb x n ≡ true) (eqb-true y z both.0) l))
-    (or_cases (ltb y z) (y == z && s) b))
-    (λ l.
-    let one = and_parts (eqb x y) r l in
-    let same : x ≡ y = eqb-true x y one.0 in
-    ⊎_elim
-    (λ m. or_left (ltb x z) (x == z && t) (subst (λ n. ltb n z ≡ true) (sym same) m))
-    (λ m. let both = and_parts (eqb y z) s m in or_right (ltb x z) (x == z && t) (and_from (eqb x z) t (eq-eqb x z (same ∙ eqb-true y z both.0)) (on one.1 both.1)))
-    (or_cases (ltb y z) (y == z && s) b))
-    (or_cases (ltb x y) (x == y && r) a)
-
-never : (x : ℕ) (r : Bool) → (r ≡ true → ⊥) → (ltb x x || (x == x && r)) ≡ true → ⊥
-never x r none h =
-    ⊎_elim
-    (λ l. let less : x < x = ltb-true x x l in absurd (omega arith))
-    (λ m. none (and_parts (eqb x x) r m).1)
-    (or_cases (ltb x x) (x == x && r) h)
-
-in_gap_on : (f g h : Option ℕ) (x y z : ℕ) → precedes_in_gap f g x y ≡ true → precedes_in_gap g h y z ≡ true → precedes_in_gap f h x z ≡ true
-in_gap_on None None None x y z a b = less_on x y z a b
-in_gap_on None None (Some h) x y z a b = absurd (false≢true b)
-in_gap_on None (Some g) h x y z a b = absurd (false≢true a)
-in_gap_on (Some f) g None x y z a b = refl
-in_gap_on (Some f) None (Some h) x y z a b = absurd (false≢true b)
-in_gap_on (Some f) (Some g) (Some h) x y z a b = lexical x y z (ltb f g) (ltb g h) (ltb f h) (less_on f g h) a b
-
-in_gap_never : (f : Option ℕ) (x : ℕ) → precedes_in_gap f f x x ≡ true → ⊥
-in_gap_never None x h = let less : x < x = ltb-true x x h in absurd (omega arith)
-in_gap_never (Some f) x h = never x (ltb f f) (λ l. let less : f < f = ltb-true f f l in absurd (omega arith)) h
-
-pub precedes_on : (p q r : Put) → precedes p q ≡ true → precedes q r ≡ true → precedes p r ≡ true
-precedes_on p q r a b =
-    lexical p.gap q.gap r.gap (precedes_in_gap p.field q.field p.var q.var) (precedes_in_gap q.field r.field q.var r.var) (precedes_in_gap p.field r.field p.var r.var)
-    (in_gap_on p.field q.field r.field p.var q.var r.var) a b
-
-pub precedes_never : (p : Put) → precedes p p ≡ true → ⊥
-precedes_never p h = never p.gap (precedes_in_gap p.field p.field p.var p.var) (in_gap_never p.field p.var) h
-
--- the first precedes each behind it
-pub precedes_rest : (p q : Put) (ps : List Put) → ascends (p ∷ ps) ≡ true → Contains ps q → precedes p q ≡ true
-precedes_rest p q [] up (k, l, e) = absurd (omega (arith, l))
-precedes_rest p q (r ∷ rs) up (zero, l, e) = subst (λ z. precedes p z ≡ true) e (and_parts (precedes p r) (ascends (r ∷ rs)) up).0
-precedes_rest p q (r ∷ rs) up (suc k, l, e) =
-    let both = and_parts (precedes p r) (ascends (r ∷ rs)) up in
-    precedes_on p r q both.0 (precedes_rest r q rs both.1 (k, omega (arith, l), e))
-
-ascends_rest : (p : Put) (ps : List Put) → ascends (p ∷ ps) ≡ true → ascends ps ≡ true
-ascends_rest p [] up = refl
-ascends_rest p (q ∷ ps) up = (and_parts (precedes p q) (ascends (q ∷ ps)) up).1
 
 pub puts_once : (ps : List Put) → ascends ps ≡ true → IsOnce ps
 puts_once [] up = once_none

@@ -8,8 +8,9 @@ use Rattle.mf_set.specs.Numbers.{Numbers, has as has_number}
 use Rattle.sat_log.specs.declared.problem.Clauses.{Clauses}
 use Rattle.sat_log.specs.declared.problem.Lit.{Lit}
 use Rattle.ts_domain.specs.declared.triples.Triple.{Triple}
+use Rattle.ts_domain.specs.Chosen.{is_chosen}
 use Rattle.cover_problem.specs.declared.types.Problem.{Problem}
-use Rattle.cover_problem.specs.Covering.{is_chosen, is_usable}
+use Rattle.cover_problem.specs.Covering.{is_usable}
 use Rattle.cover_problem.specs.Problem.{AtExit}
 
 -- variables

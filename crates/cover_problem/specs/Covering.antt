@@ -1,30 +1,13 @@
 -- Whether a choice is a cover of a problem, as it is computed.
-use Rattle.std.specs.Prelude.{ℕ, ◌==◌, ◌&&◌, ◌||◌, nat_le, not, Bool, true, false, List, length, slice_get, Option, None, Some}
+use Rattle.std.specs.Prelude.{ℕ, ◌&&◌, ◌||◌, nat_le, not, Bool, List, length}
 use Rattle.std.specs.List.{filter, list_all, list_any, range_with_len}
-use Rattle.c_tree.specs.Typing.{has}
 use Rattle.c_tree.specs.declared.choice.Choice.{Choice}
 use Rattle.c_tree.specs.declared.choice.Put.{Put}
 use Rattle.mf_set.specs.Numbers.{Numbers, has as has_number}
 use Rattle.ts_domain.specs.declared.names.Names.{Names}
 use Rattle.ts_domain.specs.declared.triples.Triple.{Triple}
+use Rattle.ts_domain.specs.Chosen.{has_put, is_chosen}
 use Rattle.cover_problem.specs.declared.types.Problem.{Problem}
-
--- puts that are one
-abbrev pub is_field : Option ℕ → Option ℕ → Bool
-is_field None None = true
-is_field None (Some g) = false
-is_field (Some f) None = false
-is_field (Some f) (Some g) = f == g
-
-abbrev pub is_put : Put → Put → Bool
-is_put p q = p.gap == q.gap && (p.var == q.var && is_field p.field q.field)
-
-abbrev pub has_put : List Put → Put → Bool
-has_put puts q = list_any (is_put q) puts
-
--- whether the put of place k is chosen
-abbrev pub is_chosen : Names → Choice → ℕ → Bool
-is_chosen n s k = has (has_put s.puts) (slice_get n.puts k)
 
 abbrev pub count_chosen : Names → Choice → Numbers → ℕ
 count_chosen n s c = length (filter (is_chosen n s) c.items)

@@ -5,48 +5,16 @@ ghost use Rattle.c_tree.specs.Fill.{IsAscending};
 ghost use Rattle.c_graph.specs.declared.graph.Graph.{Graph};
 ghost use Rattle.ts_domain.specs.declared.facts.Path.{Path as Noted};
 ghost use Rattle.ts_domain.specs.Cover.{IsCover};
-ghost use Rattle.cover_problem.specs.Covering.{are_apart, are_named, are_sound, count_chosen, covers, has_put, hold_at_most_one, hold_one, is_chosen, is_field, is_held, is_put, is_sound, is_usable};
+ghost use Rattle.cover_problem.specs.Covering.{are_apart, are_named, are_sound, count_chosen, covers, hold_at_most_one, hold_one, is_held, is_sound, is_usable};
 ghost use Rattle.cover_problem.specs.Problem.{HasRooms, IsCoverOf, IsProblem};
 
 use crate::types::Problem;
 use c_tree::{Choice, Put};
 use mf_set::BitSet;
-use ts_domain::{Names, Triple};
-
-fn is_field(one: Option<usize>, other: Option<usize>) -> bool
-    ensures { result ≡ is_field one other }
-{
-    match (one, other) {
-        (None, None) => true,
-        (None, Some(_)) => false,
-        (Some(_), None) => false,
-        (Some(one), Some(other)) => one == other,
-    }
-}
-
-fn is_put(one: Put, other: Put) -> bool
-    ensures { result ≡ is_put one other }
-{
-    one.gap == other.gap && (one.var == other.var && is_field(one.field, other.field))
-}
-
-fn has_put(puts: &[Put], put: Put) -> bool
-    ensures { result ≡ has_put puts.now put }
-{
-    puts.iter().any(|other| is_put(put, *other))
-}
-
-/// Whether the put of a place is chosen.
-fn is_chosen(names: &Names, choice: &Choice, place: usize) -> bool
-    ensures { result ≡ is_chosen names.now choice.now place }
-{
-    match names.puts.get(place) {
-        None => false,
-        Some(put) => has_put(choice.puts.as_slice(), *put),
-    }
-}
+use ts_domain::{Names, Triple, has_put, is_chosen};
 
 fn count_chosen(names: &Names, choice: &Choice, set: &BitSet) -> usize
+    requires { IsAscending choice.now }
     ensures { result ≡ count_chosen names.now choice.now set.now }
 {
     let mut count = 0;
@@ -81,12 +49,14 @@ fn is_usable(problem: &Problem, place: usize) -> bool
 }
 
 fn is_sound(problem: &Problem, choice: &Choice, place: usize) -> bool
+    requires { IsAscending choice.now }
     ensures { result ≡ is_sound problem.now choice.now place }
 {
     !is_chosen(&problem.names, choice, place) || is_usable(problem, place)
 }
 
 fn are_sound(problem: &Problem, choice: &Choice) -> bool
+    requires { IsAscending choice.now }
     ensures { result ≡ are_sound problem.now choice.now }
 {
     for place in 0..problem.names.puts.len() {
@@ -98,12 +68,14 @@ fn are_sound(problem: &Problem, choice: &Choice) -> bool
 }
 
 fn are_apart(names: &Names, choice: &Choice, pairs: &[(usize, usize)]) -> bool
+    requires { IsAscending choice.now }
     ensures { result ≡ are_apart names.now choice.now pairs.now }
 {
     pairs.iter().all(|pair| !(is_chosen(names, choice, pair.0) && is_chosen(names, choice, pair.1)))
 }
 
 fn hold_at_most_one(names: &Names, choice: &Choice, triples: &[Triple]) -> bool
+    requires { IsAscending choice.now }
     ensures { result ≡ hold_at_most_one names.now choice.now triples.now }
 {
     triples
@@ -112,6 +84,7 @@ fn hold_at_most_one(names: &Names, choice: &Choice, triples: &[Triple]) -> bool
 }
 
 fn hold_one(names: &Names, choice: &Choice, exits: &[(usize, usize, BitSet)]) -> bool
+    requires { IsAscending choice.now }
     ensures { result ≡ hold_one names.now choice.now exits.now }
 {
     exits
@@ -120,6 +93,7 @@ fn hold_one(names: &Names, choice: &Choice, exits: &[(usize, usize, BitSet)]) ->
 }
 
 fn covers(problem: &Problem, choice: &Choice) -> bool
+    requires { IsAscending choice.now }
     ensures { result ≡ covers problem.now choice.now }
 {
     let names = &problem.names;

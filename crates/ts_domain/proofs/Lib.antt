@@ -40,7 +40,7 @@ pub mod TypedRuns
 pub mod PlaceWrites
 mod SiteLaws
 mod FactNumbers
-mod MarkLaws
+pub mod MarkLaws
 mod EntryLaws
 pub mod ActionCourses
 pub mod FaultReads
@@ -51,3 +51,7 @@ pub mod NamedFrees
 pub mod GapFrees
 pub mod Members
 pub mod DerivedLaws
+pub mod DerivedMarks
+pub mod ChosenLaws
+pub mod Precedence
+pub mod RangeLaws

@@ -44,6 +44,11 @@ with_next p n e = last_number p 0 n n (omega arith) ∙ sym (next_numbers p n tr
 without_next : (p : ℕ → Bool) (n : ℕ) → p n ≡ false → filter p (range_with_len 0 n) ≡ filter p (range_with_len 0 (n + 1))
 without_next p n e = sym (append-nil (filter p (range_with_len 0 n))) ∙ sym (next_numbers p n false e)
 
+-- one number more, in its place if it passes
+pub next_passing : (p : ℕ → Bool) (n : ℕ) (b : Bool) → b ≡ p n → cond b (with_number (filter p (range_with_len 0 n)) n) (filter p (range_with_len 0 n)) ≡ filter p (range_with_len 0 (n + 1))
+next_passing p n true e = with_next p n (sym e)
+next_passing p n false e = without_next p n (sym e)
+
 draw_by : (n count site : ℕ) (v : ℕ → Verdict) (u : Verdict) → v n ≡ u → with_verdict (marked_below n count site v) n u ≡ marked_below (n + 1) count site v
 draw_by n count site v Yes e = λ i. record {
   site = site;

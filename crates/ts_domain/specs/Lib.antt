@@ -1,6 +1,7 @@
 pub mod Pointers
 pub mod Looks
 pub mod Deeds
+pub mod Ranges
 pub mod May
 pub mod Facts
 pub mod Path
@@ -14,6 +15,7 @@ pub mod Describing
 pub mod Views
 pub mod Truth
 pub mod Holding
+pub mod Chosen
 pub mod Cover
 pub mod Marks
 pub mod Aliases

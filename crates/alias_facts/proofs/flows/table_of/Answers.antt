@@ -6,7 +6,7 @@ use Rattle.alias_facts.specs.Growth.{IsSized}
 use Rattle.alias_facts.specs.Writes.{IsBound}
 use Rattle.alias_facts.specs.Writing.{DeedFits, Settles}
 use Rattle.alias_facts.proofs.AnswerLaws.{empty_sized, ended}
-use Rattle.alias_facts.proofs.RangeLaws.{done_in_range}
+use Rattle.ts_domain.proofs.RangeLaws.{done_in_range}
 use Rattle.alias_facts.proofs.flows.table_of.Goals as goal
 
 pub bounds_of-requires : goal.bounds_of-requires

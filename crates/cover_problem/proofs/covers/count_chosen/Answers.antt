@@ -1,5 +1,5 @@
 use Rattle.std.proofs.Common.{sym}
-use Rattle.cover_problem.specs.Covering.{is_chosen}
+use Rattle.ts_domain.specs.Chosen.{is_chosen}
 use Rattle.cover_problem.proofs.CountLaws.{counts_none, counts_all}
 use Rattle.cover_problem.proofs.covers.count_chosen.Goals as goal
 

@@ -1,7 +1,7 @@
 use Rattle.std.proofs.Common.{◌≡◌, ℕ, ◌+◌, ◌-◌, ◌≤◌, length}
 use Rattle.std.specs.List.{filter}
 use Rattle.mf_set.specs.Numbers.{numbers_from}
-use Rattle.cover_problem.specs.Covering.{is_chosen}
+use Rattle.ts_domain.specs.Chosen.{is_chosen}
 use Rattle.cover_problem.proofs.CountLaws.{Counts}
 use Rattle.cover_problem.proofs.covers.count_chosen.Given as goal
 

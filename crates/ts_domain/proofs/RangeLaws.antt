@@ -43,8 +43,7 @@ use Rattle.ts_domain.specs.Deeds.{action_deeds, assign_deeds, bound, bound_argum
 use Rattle.ts_domain.specs.Looks.{Look, based, compares, followed, followed_read, itself, look, look_layer, notes, pointer_of, value_deeds, valued, within}
 use Rattle.ts_domain.specs.May.{IsDone}
 use Rattle.ts_domain.specs.Pointers.{field_pointer, field_pointer_at, field_read, field_type, has_home, is_of, is_pointer, place_of, pointer_if}
-use Rattle.alias_facts.specs.Growth.{SourceFits}
-use Rattle.alias_facts.specs.Writing.{IsInRange}
+use Rattle.ts_domain.specs.Ranges.{IsInRange, SourceFits}
 
 module _ (n : Names) where
   -- all deeds of a list are in range
