@@ -1,2 +1,3 @@
 pub mod GapPuts
 pub mod FilledPosts
+pub mod Covered
