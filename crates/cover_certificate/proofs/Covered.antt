@@ -1,26 +1,36 @@
 -- A cover of what is derived from a graph, and the certificate that is made of it: what its frees and its marks are.
-use Rattle.std.proofs.Common.{◌≡◌, ℕ, Bool, true, List, [], map, slice_get, Option, Some, None, option_and_then}
-use Rattle.std.specs.List.{Contains, filter}
-use Rattle.c_tree.specs.Fill.{ascends, IsAscending}
+use Rattle.std.proofs.Common.{◌≡◌, ℕ, Bool, true, false, List, [], map, filter, slice_get, Option, Some, None, option_map, option_and_then, refl, ap, sym, ◌∙◌}
+use Rattle.std.proofs.lemmas.Bool.{true≢false}
+use Rattle.std.specs.List.{Contains}
+use Rattle.c_tree.specs.Fill.{ascends, IsAscending, puts_at as fill_puts_at}
 use Rattle.c_tree.specs.declared.choice.Choice.{Choice}
+use Rattle.c_tree.specs.declared.program.Free.{Free}
 use Rattle.c_tree.specs.declared.program.Program.{Program}
-use Rattle.c_graph.specs.Filled.{filled_graph}
+use Rattle.c_graph.specs.Filled.{filled_graph, filled_kind, filled_node}
 use Rattle.c_graph.specs.declared.graph.Edge.{Edge}
 use Rattle.c_graph.specs.declared.graph.Graph.{Graph}
 use Rattle.c_graph.specs.declared.graph.Node.{Node}
+use Rattle.c_graph.specs.declared.graph.NodeKind.{NodeKind}
+use Rattle.c_graph.specs.declared.graph.NodeKind.TheVariants.{Gap, Act, Exit}
 use Rattle.ts_domain.specs.Chosen.{is_chosen}
-use Rattle.ts_domain.specs.Cover.{IsCover}
-use Rattle.ts_domain.specs.Derived.{freed, gap_at, puts_at, AreDerived, HasWideEdge}
+use Rattle.ts_domain.specs.Cover.{IsChosen, IsCover}
+use Rattle.ts_domain.specs.Derived.{freed, gap_at, gap_puts, puts_at, AreDerived, HasWideEdge, IsDerived, IsForbidden}
 use Rattle.ts_domain.specs.May.{IsMay}
 use Rattle.ts_domain.specs.Path.{IsPath}
-use Rattle.ts_domain.specs.Post.{is_gap}
+use Rattle.ts_domain.specs.Post.{is_gap, is_wide_edge}
+use Rattle.ts_domain.specs.Puts.{gap_key}
 use Rattle.ts_domain.specs.Views.{AreNames}
 use Rattle.ts_domain.specs.declared.facts.Facts.{Facts}
 use Rattle.ts_domain.specs.declared.names.Names.{Names}
 use Rattle.ts_domain.specs.declared.triples.Derived.{Derived}
-use Rattle.cover_certificate.specs.Closed.{names_freed}
-use Rattle.cover_certificate.specs.Making.{IsMade}
+use Rattle.ts_domain.specs.declared.triples.Triple.{Triple}
+use Rattle.ts_domain.proofs.ChosenLaws.{chosen, put_found, put_there}
+use Rattle.cover_certificate.specs.Closed.{facts_of, kind_frees, named, names_freed, node_frees}
+use Rattle.cover_certificate.specs.Making.{mark_of, IsMade}
 use Rattle.cover_certificate.specs.declared.types.Cert.{Cert}
+use Rattle.cover_certificate.specs.declared.types.CertMark.{CertMark}
+use Rattle.cover_certificate.proofs.FilledFrees.{chosen_listed, puts_named}
+use Rattle.cover_certificate.proofs.FilledPosts.{node_at}
 
 -- an ascending choice covers what is derived, where no edge is wide, and the certificate is made of it
 pub record Covered (p : Program) (g : Graph) (n : Names) (f : Facts) (d : Derived) (s : Choice) (c : Cert) : Type 0 where
@@ -35,11 +45,74 @@ pub record Covered (p : Program) (g : Graph) (n : Names) (f : Facts) (d : Derive
   pub cover : IsCover g n f.path d s
   pub made : IsMade n g f d s c
 
+-- the frees of a filled kind
+kind_named : (n : Names) (s : Choice) (k : NodeKind) → gap_key k ≡ None → map (λ (e : Free). named n e.expr) (kind_frees (filled_kind s.puts k)) ≡ []
+kind_named n s (Gap number frees) none = absurd cc
+kind_named n s (Act a) none = refl
+kind_named n s (Exit offset) none = refl
+
 module _ (p : Program) (g : Graph) (n : Names) (f : Facts) (d : Derived) (s : Choice) (c : Cert) (is : Covered p g n f d s c) where
-  -- what the frees of a node free: what its chosen puts free, in their order
+  -- whether a put is chosen, and what it frees, by its place
+  abbrev pub chosen_at : ℕ → Bool
+  chosen_at = is_chosen n s
+
+  abbrev pub freed_at_place : ℕ → Option ℕ
+  freed_at_place k = option_and_then (freed n) (slice_get n.puts k)
+
+  -- frees
+
+  kind_chosen : (k : NodeKind) → map (λ (e : Free). named n e.expr) (kind_frees (filled_kind s.puts k)) ≡ map freed_at_place (filter chosen_at (gap_puts n (gap_key k)))
+  kind_chosen (Gap number frees) =
+      puts_named p g n is.names (fill_puts_at s.puts number)
+      ∙ chosen_listed s.puts n.puts number (option_and_then (freed n)) is.ascending is.order
+      (λ q h. put_there n.puts q (is.cover.named q (put_found s.puts q h)))
+  kind_chosen (Act a) = refl
+  kind_chosen (Exit offset) = refl
+
+  node_chosen : (o : Option Node) → map (λ (e : Free). named n e.expr) (node_frees (option_map (filled_node s.puts) o)) ≡ map freed_at_place (filter chosen_at (gap_puts n (option_and_then (λ (node : Node). gap_key node.kind) o)))
+  node_chosen None = refl
+  node_chosen (Some node) = kind_chosen node.kind
+
+  -- what the frees of a node free is what its chosen puts free, in their order
   pub names_chosen : (v : ℕ) → names_freed n (filled_graph s g) v ≡ map (λ k. option_and_then (freed n) (slice_get n.puts k)) (filter (is_chosen n s) (puts_at n g v))
-  names_chosen = ?
+  names_chosen v = ap (λ (o : Option Node). map (λ (e : Free). named n e.expr) (node_frees o)) (node_at s g v) ∙ node_chosen (slice_get g.nodes v)
+
+  none_by : (o : Option Node) → option_and_then (λ (node : Node). gap_key node.kind) o ≡ None → map (λ (e : Free). named n e.expr) (node_frees (option_map (filled_node s.puts) o)) ≡ []
+  none_by None none = refl
+  none_by (Some node) none = kind_named n s node.kind none
 
   -- a node that is no gap frees nothing
   pub none_freed : (v : ℕ) → gap_at g v ≡ None → names_freed n (filled_graph s g) v ≡ []
-  none_freed = ?
+  none_freed v none = ap (λ (o : Option Node). map (λ (e : Free). named n e.expr) (node_frees o)) (node_at s g v) ∙ none_by (slice_get g.nodes v) none
+
+  -- facts
+
+  pub facts_are : facts_of c ≡ f
+  facts_are i = record { may = is.made.may i; path = is.made.path i }
+
+  -- marks
+
+  -- each mark is that of a triple
+  pub triple_of : (m : CertMark) → Contains c.marks m → (t : Triple) × IsDerived n g f t × (m ≡ mark_of n s t)
+  triple_of m h = let it = (is.made.marks m).0 h in (it.0, (is.derived.triples it.0).0 it.1, it.2)
+
+  -- and each triple has its mark
+  pub mark_listed : (t : Triple) → IsDerived n g f t → Contains c.marks (mark_of n s t)
+  mark_listed t h = (is.made.marks (mark_of n s t)).1 (t, (is.derived.triples t).1 h, refl)
+
+  -- no edge is wide for a triple
+  pub edge_narrow : (e : Edge) (t : Triple) → Contains g.edges e → IsDerived n g f t → e.from ≡ t.node → is_wide_edge n g f e t.mark ≡ false
+  edge_narrow e t among h from = by_case (is_wide_edge n g f e t.mark) refl
+    where
+      by_case : (b : Bool) → is_wide_edge n g f e t.mark ≡ b → b ≡ false
+      by_case true wide = absurd (is.narrow (record { triple = t; derived = h; edge = e; is_edge = among; leaves = from; wide = wide }))
+      by_case false narrow = refl
+
+  -- chosen puts
+
+  pub is_put_chosen : (k : ℕ) → is_chosen n s k ≡ true → IsChosen n s k
+  is_put_chosen k h = chosen n s k h
+
+  -- none of them is forbidden
+  pub none_forbidden : (k : ℕ) → IsForbidden n g f k → is_chosen n s k ≡ true → ⊥
+  none_forbidden k h is_it = true≢false (sym ((is.derived.forbidden k).1 h) ∙ is.cover.unforbidden k (chosen n s k is_it))

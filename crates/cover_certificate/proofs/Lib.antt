@@ -1,3 +1,4 @@
 pub mod GapPuts
 pub mod FilledPosts
+pub mod FilledFrees
 pub mod Covered
