@@ -1,6 +1,6 @@
 -- A cover of what is derived from a graph, and the certificate that is made of it: what its frees and its marks are.
-use Rattle.std.proofs.Common.{◌≡◌, ℕ, Bool, true, false, List, [], map, filter, slice_get, Option, Some, None, option_map, option_and_then, refl, ap, sym, ◌∙◌}
-use Rattle.std.proofs.lemmas.Bool.{true≢false}
+use Rattle.std.proofs.Common.{◌≡◌, ℕ, ◌==◌, ◌&&◌, Bool, true, false, List, [], map, filter, slice_get, Option, Some, None, option_map, option_and_then, refl, ap, sym, ◌∙◌}
+use Rattle.std.proofs.lemmas.Bool.{and_parts, eqb-true, true≢false}
 use Rattle.std.specs.List.{Contains}
 use Rattle.c_tree.specs.Fill.{ascends, IsAscending, puts_at as fill_puts_at}
 use Rattle.c_tree.specs.declared.choice.Choice.{Choice}
@@ -25,7 +25,8 @@ use Rattle.ts_domain.specs.declared.names.Names.{Names}
 use Rattle.ts_domain.specs.declared.triples.Derived.{Derived}
 use Rattle.ts_domain.specs.declared.triples.Triple.{Triple}
 use Rattle.ts_domain.proofs.ChosenLaws.{chosen, put_found, put_there}
-use Rattle.cover_certificate.specs.Closed.{facts_of, kind_frees, named, names_freed, node_frees}
+use Rattle.ts_domain.proofs.Members.{any_at}
+use Rattle.cover_certificate.specs.Closed.{facts_of, kind_frees, named, names_freed, node_frees, some_edge, some_mark}
 use Rattle.cover_certificate.specs.Making.{mark_of, IsMade}
 use Rattle.cover_certificate.specs.declared.types.Cert.{Cert}
 use Rattle.cover_certificate.specs.declared.types.CertMark.{CertMark}
@@ -50,6 +51,29 @@ kind_named : (n : Names) (s : Choice) (k : NodeKind) → gap_key k ≡ None → 
 kind_named n s (Gap number frees) none = absurd cc
 kind_named n s (Act a) none = refl
 kind_named n s (Exit offset) none = refl
+
+pub some_true : (b : Bool) → Some b ≡ Some true → b ≡ true
+some_true b e = cc
+
+-- what fails at a node by some edge fails by one from there
+pub record FailsBy (g : Graph) (v : ℕ) (test : Edge → Bool) : Type 0 where
+  pub edge : Edge
+  pub among : Contains g.edges edge
+  pub from : edge.from ≡ v
+  pub fails : test edge ≡ true
+
+pub fails_by : (g : Graph) (v : ℕ) (test : Edge → Bool) → Some (some_edge g v test) ≡ Some true → FailsBy g v test
+fails_by g v test h =
+    let it = any_at (λ (e : Edge). e.from == v && test e) g.edges (some_true (some_edge g v test) h) in
+    let both = and_parts (it.0.from == v) (test it.0) it.2 in
+    record { edge = it.0; among = it.1; from = eqb-true it.0.from v both.0; fails = both.1 }
+
+-- what fails at a node of some mark fails of that of a triple there
+pub record FailsOf (n : Names) (g : Graph) (f : Facts) (s : Choice) (v : ℕ) (test : CertMark → Bool) : Type 0 where
+  pub triple : Triple
+  pub derived : IsDerived n g f triple
+  pub node : triple.node ≡ v
+  pub fails : test (mark_of n s triple) ≡ true
 
 module _ (p : Program) (g : Graph) (n : Names) (f : Facts) (d : Derived) (s : Choice) (c : Cert) (is : Covered p g n f d s c) where
   -- whether a put is chosen, and what it frees, by its place
@@ -99,6 +123,13 @@ module _ (p : Program) (g : Graph) (n : Names) (f : Facts) (d : Derived) (s : Ch
   -- and each triple has its mark
   pub mark_listed : (t : Triple) → IsDerived n g f t → Contains c.marks (mark_of n s t)
   mark_listed t h = (is.made.marks (mark_of n s t)).1 (t, (is.derived.triples t).1 h, refl)
+
+  pub fails_of : (v : ℕ) (test : CertMark → Bool) → some_mark c v test ≡ true → FailsOf n g f s v test
+  fails_of v test h =
+      let it = any_at (λ (m : CertMark). m.node == v && test m) c.marks h in
+      let both = and_parts (it.0.node == v) (test it.0) it.2 in
+      let of = triple_of it.0 it.1 in
+      record { triple = of.0; derived = of.1; node = sym (ap (λ (m : CertMark). m.node) of.2) ∙ eqb-true it.0.node v both.0; fails = sym (ap test of.2) ∙ both.1 }
 
   -- no edge is wide for a triple
   pub edge_narrow : (e : Edge) (t : Triple) → Contains g.edges e → IsDerived n g f t → e.from ≡ t.node → is_wide_edge n g f e t.mark ≡ false

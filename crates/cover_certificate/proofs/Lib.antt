@@ -2,3 +2,4 @@ pub mod GapPuts
 pub mod FilledPosts
 pub mod FilledFrees
 pub mod Covered
+pub mod CoverMarks
