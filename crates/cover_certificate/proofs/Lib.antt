@@ -3,3 +3,4 @@ pub mod FilledPosts
 pub mod FilledFrees
 pub mod Covered
 pub mod CoverMarks
+pub mod CoverCloses
