@@ -1,5 +1,5 @@
 -- The marks of a cover's certificate: births and posts are matched, no object is touched once it is freed, and at exits all are freed.
-use Rattle.std.proofs.Common.{◌≡◌, ℕ, zero, suc, ◌<◌, ◌==◌, ◌&&◌, ◌||◌, ⊎_elim, inl, Bool, true, false, not, if◌then◌else◌, List, [], ◌∷◌, slice_get, Option, Some, None, option_and_then, refl, ap, sym, subst, ◌∙◌, arith}
+use Rattle.std.proofs.Common.{◌≡◌, ℕ, zero, suc, ◌==◌, ◌&&◌, ⊎_elim, inl, Bool, true, false, not, if◌then◌else◌, List, [], ◌∷◌, slice_get, Option, Some, None, option_and_then, refl, ap, sym, subst, ◌∙◌, arith}
 use Rattle.std.proofs.lemmas.Bool.{and_from, and_parts, eq-eqb, false≢true, or_cases, true≢false}
 use Rattle.std.specs.List.{Contains, list_any}
 use Rattle.c_tree.specs.Typing.{has}
@@ -11,12 +11,12 @@ use Rattle.c_graph.specs.declared.graph.Graph.{Graph}
 use Rattle.c_graph.specs.declared.graph.Node.{Node}
 use Rattle.c_graph.specs.declared.graph.NodeKind.{NodeKind}
 use Rattle.c_graph.specs.declared.graph.NodeKind.TheVariants.{Gap, Act, Exit}
-use Rattle.mf_set.specs.Numbers.{has as has_number, is_subset}
+use Rattle.mf_set.specs.Numbers.{is_subset}
 use Rattle.mf_set.proofs.NumberLaws.{members-is_subset, Contains-has}
 use Rattle.ts_domain.specs.Chosen.{is_chosen}
 use Rattle.ts_domain.specs.Cover.{is_exit_at}
 use Rattle.ts_domain.specs.Deeds.{edge_deeds}
-use Rattle.ts_domain.specs.Derived.{behind, carried, freed, gap_at, gap_puts, gathered, put_verdict, puts_at, triple, starts, follows, IsDerived, Touches}
+use Rattle.ts_domain.specs.Derived.{behind, carried, freed, gap_at, gap_puts, gathered, put_verdict, puts_at, triple, starts, follows, IsDerived}
 use Rattle.ts_domain.specs.Marks.{step}
 use Rattle.ts_domain.specs.Path.{Reached, same_bool}
 use Rattle.ts_domain.specs.Post.{at_edge, born, deeds_post, is_gap, is_wide_edge, leaves_gap, post}

@@ -13,7 +13,7 @@ use Rattle.c_graph.specs.declared.graph.Node.{Node}
 use Rattle.c_graph.specs.declared.graph.NodeKind.{NodeKind}
 use Rattle.c_graph.specs.declared.graph.NodeKind.TheVariants.{Gap, Act, Exit}
 use Rattle.ts_domain.specs.Chosen.{is_chosen}
-use Rattle.ts_domain.specs.Cover.{IsChosen, IsCover}
+use Rattle.ts_domain.specs.Cover.{IsCover}
 use Rattle.ts_domain.specs.Derived.{freed, gap_at, gap_puts, puts_at, AreDerived, HasWideEdge, IsDerived, IsForbidden}
 use Rattle.ts_domain.specs.May.{IsMay}
 use Rattle.ts_domain.specs.Path.{IsPath}
@@ -46,12 +46,6 @@ pub record Covered (p : Program) (g : Graph) (n : Names) (f : Facts) (d : Derive
   pub cover : IsCover g n f.path d s
   pub made : IsMade n g f d s c
 
--- the frees of a filled kind
-kind_named : (n : Names) (s : Choice) (k : NodeKind) → gap_key k ≡ None → map (λ (e : Free). named n e.expr) (kind_frees (filled_kind s.puts k)) ≡ []
-kind_named n s (Gap number frees) none = absurd cc
-kind_named n s (Act a) none = refl
-kind_named n s (Exit offset) none = refl
-
 pub some_true : (b : Bool) → Some b ≡ Some true → b ≡ true
 some_true b e = cc
 
@@ -76,16 +70,13 @@ pub record FailsOf (n : Names) (g : Graph) (f : Facts) (s : Choice) (v : ℕ) (t
   pub fails : test (mark_of n s triple) ≡ true
 
 module _ (p : Program) (g : Graph) (n : Names) (f : Facts) (d : Derived) (s : Choice) (c : Cert) (is : Covered p g n f d s c) where
-  -- whether a put is chosen, and what it frees, by its place
-  abbrev pub chosen_at : ℕ → Bool
-  chosen_at = is_chosen n s
-
-  abbrev pub freed_at_place : ℕ → Option ℕ
-  freed_at_place k = option_and_then (freed n) (slice_get n.puts k)
-
   -- frees
 
-  kind_chosen : (k : NodeKind) → map (λ (e : Free). named n e.expr) (kind_frees (filled_kind s.puts k)) ≡ map freed_at_place (filter chosen_at (gap_puts n (gap_key k)))
+  -- what the chosen of some puts free
+  abbrev freed_by : List ℕ → List (Option ℕ)
+  freed_by ks = map (λ k. option_and_then (freed n) (slice_get n.puts k)) (filter (is_chosen n s) ks)
+
+  kind_chosen : (k : NodeKind) → map (λ (e : Free). named n e.expr) (kind_frees (filled_kind s.puts k)) ≡ freed_by (gap_puts n (gap_key k))
   kind_chosen (Gap number frees) =
       puts_named p g n is.names (fill_puts_at s.puts number)
       ∙ chosen_listed s.puts n.puts number (option_and_then (freed n)) is.ascending is.order
@@ -93,7 +84,7 @@ module _ (p : Program) (g : Graph) (n : Names) (f : Facts) (d : Derived) (s : Ch
   kind_chosen (Act a) = refl
   kind_chosen (Exit offset) = refl
 
-  node_chosen : (o : Option Node) → map (λ (e : Free). named n e.expr) (node_frees (option_map (filled_node s.puts) o)) ≡ map freed_at_place (filter chosen_at (gap_puts n (option_and_then (λ (node : Node). gap_key node.kind) o)))
+  node_chosen : (o : Option Node) → map (λ (e : Free). named n e.expr) (node_frees (option_map (filled_node s.puts) o)) ≡ freed_by (gap_puts n (option_and_then (λ (node : Node). gap_key node.kind) o))
   node_chosen None = refl
   node_chosen (Some node) = kind_chosen node.kind
 
@@ -101,13 +92,9 @@ module _ (p : Program) (g : Graph) (n : Names) (f : Facts) (d : Derived) (s : Ch
   pub names_chosen : (v : ℕ) → names_freed n (filled_graph s g) v ≡ map (λ k. option_and_then (freed n) (slice_get n.puts k)) (filter (is_chosen n s) (puts_at n g v))
   names_chosen v = ap (λ (o : Option Node). map (λ (e : Free). named n e.expr) (node_frees o)) (node_at s g v) ∙ node_chosen (slice_get g.nodes v)
 
-  none_by : (o : Option Node) → option_and_then (λ (node : Node). gap_key node.kind) o ≡ None → map (λ (e : Free). named n e.expr) (node_frees (option_map (filled_node s.puts) o)) ≡ []
-  none_by None none = refl
-  none_by (Some node) none = kind_named n s node.kind none
-
   -- a node that is no gap frees nothing
   pub none_freed : (v : ℕ) → gap_at g v ≡ None → names_freed n (filled_graph s g) v ≡ []
-  none_freed v none = ap (λ (o : Option Node). map (λ (e : Free). named n e.expr) (node_frees o)) (node_at s g v) ∙ none_by (slice_get g.nodes v) none
+  none_freed v none = names_chosen v ∙ ap (λ (o : Option ℕ). freed_by (gap_puts n o)) none
 
   -- facts
 
@@ -139,11 +126,6 @@ module _ (p : Program) (g : Graph) (n : Names) (f : Facts) (d : Derived) (s : Ch
       by_case true wide = absurd (is.narrow (record { triple = t; derived = h; edge = e; is_edge = among; leaves = from; wide = wide }))
       by_case false narrow = refl
 
-  -- chosen puts
-
-  pub is_put_chosen : (k : ℕ) → is_chosen n s k ≡ true → IsChosen n s k
-  is_put_chosen k h = chosen n s k h
-
-  -- none of them is forbidden
+  -- no chosen put is forbidden
   pub none_forbidden : (k : ℕ) → IsForbidden n g f k → is_chosen n s k ≡ true → ⊥
   none_forbidden k h is_it = true≢false (sym ((is.derived.forbidden k).1 h) ∙ is.cover.unforbidden k (chosen n s k is_it))
