@@ -116,7 +116,7 @@ module _ (s : Choice) (g : Graph) where
       ap (λ (p : Edge → Bool). option_and_then (λ (e : Edge). callee_at (filled_graph s g) e.from) (find p g.edges)) (fun_ext (λ (e : Edge). ap (λ (c : Option ℕ). enters e.way && has (λ j. j == k) c) (context_same e.to)))
       ∙ bind_over (λ (e : Edge). callee_at (filled_graph s g) e.from) (λ (e : Edge). callee_at g e.from) (λ e. callee_same e.from) (find (enters_into g k) g.edges)
 
-  deeds_same : (n : Names) (e : Edge) → edge_deeds n (filled_graph s g) e ≡ edge_deeds n g e
+  pub deeds_same : (n : Names) (e : Edge) → edge_deeds n (filled_graph s g) e ≡ edge_deeds n g e
   deeds_same n e = ap (node_deeds n (filled_graph s g) e) (node_at e.from) ∙ by_node (slice_get g.nodes e.from)
     where
       by_kind : (f : Option ℕ) (k : NodeKind) → kind_deeds n (site_of n e.from) f e.way (filled_kind s.puts k) ≡ kind_deeds n (site_of n e.from) f e.way k

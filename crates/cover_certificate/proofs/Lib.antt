@@ -7,3 +7,9 @@ mod SetOrder
 mod LineLaws
 mod RegularFacts
 mod MadeLaws
+pub mod FilledFrees
+pub mod Covered
+pub mod CoverFacts
+pub mod CoverPuts
+pub mod CoverMarks
+pub mod CoverCloses
