@@ -126,6 +126,10 @@ step_piece x y is seen =
 block_has : (b : Block) → BlockHas b
 block_has = ind-Block ItemHas ArmHas BlockHas PieceHas step_item step_arm step_block step_piece
 
+-- a function's rows are those of its gaps
+pub function_numbered : (d : FunDef) (globals : List ℕ) → row_numbers (function_place d globals) ≡ map (λ (g : Gap). g.number) (gaps_in d.body)
+function_numbered d globals = block_has d.body (globals ++ d.params)
+
 functions_have : (vars : List VarDef) (f : ℕ) (s : Declared) (ds : List FunDef) → row_numbers (scopes_from vars f s ds) ≡ gap_numbers (flat_map (λ (d : FunDef). gaps_in d.body) ds)
 functions_have vars f s [] = refl
 functions_have vars f s (d ∷ ds) =

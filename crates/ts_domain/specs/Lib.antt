@@ -25,3 +25,4 @@ pub mod Post
 pub mod FreedReads
 pub mod PeekedFrees
 pub mod Derived
+pub mod Reaching

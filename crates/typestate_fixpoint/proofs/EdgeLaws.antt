@@ -20,7 +20,7 @@ use Rattle.ts_domain.specs.Deeds.{edge_deeds}
 use Rattle.ts_domain.specs.Post.{is_wide_edge, post}
 use Rattle.typestate_fixpoint.specs.Gaps.{HasMore}
 use Rattle.typestate_fixpoint.specs.Steps.{edge_forbids, edge_triples, is_wide_at, next_triple, place_forbids, place_triples, same_triple, Passes, PassesAll}
-use Rattle.typestate_fixpoint.proofs.KeyLaws.{insert_append, one_element}
+use Rattle.ts_domain.proofs.KeyLaws.{insert_append, one_element}
 
 or_assoc : (a b c : Bool) → ((a || b) || c) ≡ (a || (b || c))
 or_assoc true b c = refl

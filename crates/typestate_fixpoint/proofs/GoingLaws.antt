@@ -22,10 +22,11 @@ use Rattle.ts_domain.specs.Post.{born, is_wide_edge, post}
 use Rattle.ts_domain.specs.Rows.{row, AreRows}
 use Rattle.ts_domain.proofs.Members.{any_at, any_from, at_first, in_flat_map, of_flat_map}
 use Rattle.typestate_fixpoint.specs.Gaps.{same_pair, HasMore}
-use Rattle.typestate_fixpoint.specs.Steps.{born_from, born_over, born_triple, edge_forbids, edge_triples, from_of, is_wide_at, next_triple, place_forbids, place_triples, same_triple, touches, BeginsAt, HasWide}
-use Rattle.typestate_fixpoint.specs.Worklist.{behind_set, AreAll, Expands, Going, IsClosed}
-use Rattle.typestate_fixpoint.proofs.KeyLaws.{closed_on, element_at, element_from, first_or, key_before, keys_from, keys_keep, keys_once, keys_stay, keys_to, one_element}
-use Rattle.typestate_fixpoint.proofs.RowPlaces.{in_row, row_begins}
+use Rattle.ts_domain.specs.Reaching.{from_of, BeginsAt, IsClosed}
+use Rattle.typestate_fixpoint.specs.Steps.{born_from, born_over, born_triple, edge_forbids, edge_triples, is_wide_at, next_triple, place_forbids, place_triples, same_triple, touches, HasWide}
+use Rattle.typestate_fixpoint.specs.Worklist.{behind_set, AreAll, Expands, Going}
+use Rattle.ts_domain.proofs.KeyLaws.{closed_on, element_at, element_from, first_or, key_before, keys_from, keys_keep, keys_once, keys_stay, keys_to, one_element}
+use Rattle.ts_domain.proofs.RowPlaces.{in_row, row_begins}
 use Rattle.typestate_fixpoint.proofs.TripleLaws.{pair_decides, pair_is, pair_laws, triple_decides, triple_is, triple_laws}
 
 module _ {A : Type 0} where

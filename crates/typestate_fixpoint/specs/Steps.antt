@@ -15,6 +15,7 @@ use Rattle.ts_domain.specs.declared.triples.Triple.{Triple}
 use Rattle.ts_domain.specs.Deeds.{edge_deeds}
 use Rattle.ts_domain.specs.Derived.{carried, triple}
 use Rattle.ts_domain.specs.Post.{born, is_wide_edge, post}
+use Rattle.ts_domain.specs.Reaching.{from_of}
 use Rattle.ts_domain.specs.Rows.{AreRows}
 use Rattle.ts_domain.specs.SameEntries.{same_mark}
 use Rattle.typestate_fixpoint.specs.Gaps.{ArePuts, HasMore}
@@ -22,26 +23,10 @@ use Rattle.typestate_fixpoint.specs.declared.tables.Tables.{Tables}
 
 -- tables
 
--- an edge by its first node
-abbrev pub from_of : Edge → Option ℕ
-from_of e = Some e.from
-
 pub record AreTables (n : Names) (g : Graph) (t : Tables) : Type 0 where
   pub outgoing : AreRows (map from_of g.edges) t.outgoing
   pub deeds : t.deeds ≡ map (edge_deeds n g) g.edges
   pub puts : ArePuts n t.puts
-
--- an edge of that place begins at a node
-abbrev pub BeginsAt : Graph → ℕ → ℕ → Type 0
-BeginsAt g v k = (e : Edge) × (slice_get g.edges k ≡ Some e) × (e.from ≡ v)
-
--- where the edge of a place leads, if there is one
-abbrev pub ends_of : Option Edge → List ℕ
-ends_of None = []
-ends_of (Some e) = e.to ∷ []
-
-abbrev pub target : Graph → ℕ → List ℕ
-target g k = ends_of (slice_get g.edges k)
 
 -- triples
 

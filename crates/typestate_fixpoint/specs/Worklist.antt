@@ -12,25 +12,8 @@ use Rattle.ts_domain.specs.Derived.{behind, forbidden_at, pairs_at, put_follows,
 use Rattle.ts_domain.specs.Path.{Reached}
 use Rattle.ts_domain.specs.Rows.{row, AreRows}
 use Rattle.typestate_fixpoint.specs.Gaps.{same_pair, HasMore}
-use Rattle.typestate_fixpoint.specs.Steps.{from_of, same_triple, HasWide, PassesAll}
-
--- what the first elements lead to is there
-abbrev pub IsClosed : {T : Type 0} → (T → T → Type 0) → ℕ → List T → Type 0
-IsClosed {T} Leads done xs = (i : ℕ) (s t : T) → i < done → slice_get xs i ≡ Some s → Leads s t → Contains xs t
-
--- nodes
-
--- an edge leads from a node to another
-abbrev pub Leads : Graph → ℕ → ℕ → Type 0
-Leads g v w = (e : Edge) × Contains g.edges e × (e.from ≡ v) × (e.to ≡ w)
-
--- nodes that are reached, the first of which have been gone through
-pub record Walked (g : Graph) (done : ℕ) (xs : List ℕ) : Type 0 where
-  pub reached : (v : ℕ) → Contains xs v → Reached g v
-  pub first : Contains xs 0
-  pub closed : IsClosed (Leads g) done xs
-  pub once : IsDistinct nat_eq xs
-  pub within : done ≤ length xs
+use Rattle.ts_domain.specs.Reaching.{from_of}
+use Rattle.typestate_fixpoint.specs.Steps.{same_triple, HasWide, PassesAll}
 
 -- triples
 

@@ -9,7 +9,6 @@ ghost use Rattle.typestate_fixpoint.specs.Worklist.{AreAll, Expands, Going};
 
 use crate::edges::over_edges;
 use crate::gaps::{behind, forbid_at, pair_at, puts_at};
-use crate::reached::reached;
 use crate::steps::{add_triple, copy_of};
 use crate::tables::{Tables, tables_of};
 use c_graph::{Edge, Graph};
@@ -18,7 +17,7 @@ use indexmap::IndexSet;
 use mf_list::{Memory, Seq};
 use mf_set::BitSet;
 use std::alloc::Global;
-use ts_domain::{Deed, Derived, Facts, Known, Names, Triple, deeds_born, row};
+use ts_domain::{Deed, Derived, Facts, Known, Names, Triple, deeds_born, reached, row};
 
 /// The greatest number of triples.
 const MOST_TRIPLES: usize = 100000;

@@ -6,7 +6,8 @@ ghost use Rattle.ts_domain.specs.Deeds.{edge_deeds};
 ghost use Rattle.ts_domain.specs.Marks.{knowledge, step};
 ghost use Rattle.ts_domain.specs.Post.{is_gap, is_wide_edge, leaves_gap, post};
 ghost use Rattle.typestate_fixpoint.specs.Gaps.{HasMore};
-ghost use Rattle.typestate_fixpoint.specs.Steps.{AreTables, BeginsAt, HasWide, Passes, PassesAll};
+ghost use Rattle.ts_domain.specs.Reaching.{BeginsAt};
+ghost use Rattle.typestate_fixpoint.specs.Steps.{AreTables, HasWide, Passes, PassesAll};
 
 use crate::steps::add_steps;
 use crate::tables::Tables;

@@ -5,7 +5,6 @@ mod derivation;
 mod edges;
 mod freed;
 mod gaps;
-mod reached;
 mod steps;
 mod tables;
 

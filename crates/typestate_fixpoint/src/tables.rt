@@ -1,6 +1,7 @@
 // What is looked up for each triple: the edges from a node, what edges do to pointers, and the puts of gaps.
 ghost use Rattle.std.specs.Prelude.{◌≡◌, map, IfOk};
-ghost use Rattle.typestate_fixpoint.specs.Steps.{from_of, AreTables};
+ghost use Rattle.ts_domain.specs.Reaching.{from_of};
+ghost use Rattle.typestate_fixpoint.specs.Steps.{AreTables};
 
 use crate::freed::{Puts, puts_of};
 use c_graph::{Edge, Graph};

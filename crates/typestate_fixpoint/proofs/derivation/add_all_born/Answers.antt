@@ -2,7 +2,7 @@ use Rattle.std.proofs.Common.{rules, ◌≡◌, take, ap, sym, ◌∙◌}
 use Rattle.std.specs.List.{flat_map}
 use Rattle.indexmap.specs.IndexSet.{insert_all}
 use Rattle.typestate_fixpoint.specs.Steps.{born_from, same_triple}
-use Rattle.typestate_fixpoint.proofs.KeyLaws.{flat_on, insert_append}
+use Rattle.ts_domain.proofs.KeyLaws.{flat_on, insert_append}
 use Rattle.typestate_fixpoint.proofs.derivation.add_all_born.Goals as goal
 
 pub loop-place-preserved : goal.loop-place-preserved

@@ -5,10 +5,11 @@ use Rattle.indexmap.specs.IndexSet.{insert_all}
 use Rattle.ts_domain.specs.Derived.{forbidden_at, gap_at, gathered, pairs_at}
 use Rattle.ts_domain.specs.Rows.{row}
 use Rattle.typestate_fixpoint.specs.Gaps.{follows_in, row_at, same_pair, verdict_in, HasMore}
-use Rattle.typestate_fixpoint.specs.Steps.{BeginsAt, PassesAll}
+use Rattle.ts_domain.specs.Reaching.{BeginsAt}
+use Rattle.typestate_fixpoint.specs.Steps.{PassesAll}
 use Rattle.typestate_fixpoint.specs.Worklist.{behind_set}
 use Rattle.typestate_fixpoint.proofs.GapLaws.{behind_is, forbids_are, pairs_are, row_below}
-use Rattle.typestate_fixpoint.proofs.RowPlaces.{rows_begin}
+use Rattle.ts_domain.proofs.RowPlaces.{rows_begin}
 use Rattle.typestate_fixpoint.proofs.derivation.expand.Goals as goal
 
 pub behind-requires : goal.behind-requires

@@ -3,7 +3,7 @@ use Rattle.typestate_fixpoint.specs.Steps.{HasWide}
 use Rattle.typestate_fixpoint.specs.Worklist.{Expands}
 use Rattle.ts_domain.proofs.DerivedLaws.{derived_set}
 use Rattle.typestate_fixpoint.proofs.GoingLaws.{going_on, passes_many, passes_wide}
-use Rattle.typestate_fixpoint.proofs.KeyLaws.{element_from}
+use Rattle.ts_domain.proofs.KeyLaws.{element_from}
 use Rattle.typestate_fixpoint.proofs.derivation.go_through.Goals as goal
 
 pub returns-in_err-few-clause-limit : goal.returns-in_err-few-clause-limit

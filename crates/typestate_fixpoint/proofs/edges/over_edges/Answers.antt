@@ -5,9 +5,10 @@ use Rattle.c_graph.specs.declared.graph.Edge.{Edge}
 use Rattle.ts_domain.specs.declared.deed.Deed.{Deed}
 use Rattle.ts_domain.specs.Deeds.{edge_deeds}
 use Rattle.ts_domain.specs.Post.{is_wide_edge}
-use Rattle.typestate_fixpoint.specs.Steps.{BeginsAt, Passes, PassesAll}
+use Rattle.ts_domain.specs.Reaching.{BeginsAt}
+use Rattle.typestate_fixpoint.specs.Steps.{Passes, PassesAll}
 use Rattle.typestate_fixpoint.proofs.EdgeLaws.{deeds_at, passes_more}
-use Rattle.typestate_fixpoint.proofs.KeyLaws.{element_from, one_element}
+use Rattle.ts_domain.proofs.KeyLaws.{element_from, one_element}
 use Rattle.typestate_fixpoint.proofs.edges.over_edges.Goals as goal
 
 pub at-edge-requires : goal.at-edge-requires

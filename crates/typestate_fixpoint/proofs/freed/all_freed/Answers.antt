@@ -3,7 +3,7 @@ use Rattle.std.proofs.lemmas.Option.{slice_get-get_or}
 use Rattle.c_tree.specs.declared.choice.Put.{Put}
 use Rattle.typestate_fixpoint.specs.declared.freed.Freed.{Freed}
 use Rattle.typestate_fixpoint.specs.Gaps.{freed_of}
-use Rattle.typestate_fixpoint.proofs.KeyLaws.{map_on}
+use Rattle.ts_domain.proofs.KeyLaws.{map_on}
 use Rattle.typestate_fixpoint.proofs.freed.all_freed.Goals as goal
 
 pub loop-put-preserved : goal.loop-put-preserved

@@ -1,5 +1,5 @@
 use Rattle.std.proofs.Common.{◌≡◌, ◌++◌, drop, map}
-use Rattle.typestate_fixpoint.specs.Steps.{from_of}
+use Rattle.ts_domain.specs.Reaching.{from_of}
 use Rattle.typestate_fixpoint.proofs.tables.from_keys.Given as goal
 
 abbrev pub invariant-loop-edge : goal.invariant-loop-edge

@@ -12,7 +12,7 @@ use Rattle.c_graph.specs.declared.graph.Edge.{Edge}
 use Rattle.c_graph.specs.declared.graph.Graph.{Graph}
 use Rattle.ts_domain.proofs.DerivedLaws.{place_from}
 use Rattle.ts_domain.specs.Rows.{AreRows, is_key, places_of, row}
-use Rattle.typestate_fixpoint.specs.Steps.{from_of, BeginsAt}
+use Rattle.ts_domain.specs.Reaching.{from_of, BeginsAt}
 
 has_range : (a m k : ℕ) → a ≤ k → k < a + m → has_number (range_with_len a m) k ≡ true
 has_range a zero k p q = absurd (omega (arith, p, q))

@@ -10,7 +10,7 @@ use Rattle.std.specs.Cmp.{IsEquivalence}
 use Rattle.std.specs.List.{Contains, IsDistinct, flat_map, list_any}
 use Rattle.indexmap.specs.IndexSet.{insert_all, insert_key}
 use Rattle.indexmap.proofs.CallerLemmas.{Contains-insert_key}
-use Rattle.typestate_fixpoint.specs.Worklist.{IsClosed}
+use Rattle.ts_domain.specs.Reaching.{IsClosed}
 use Rattle.ts_domain.proofs.Members.{at_first, at_later}
 
 module _ {T : Type 0} where

@@ -4,13 +4,13 @@ ghost use Rattle.std.specs.List.{Contains, flat_map};
 ghost use Rattle.indexmap.specs.IndexSet.{insert_all, insert_key};
 ghost use Rattle.ts_domain.specs.Path.{Reached};
 ghost use Rattle.ts_domain.specs.Rows.{AreRows};
-ghost use Rattle.typestate_fixpoint.specs.Steps.{from_of, target};
+ghost use Rattle.ts_domain.specs.Reaching.{from_of, target};
 
 use c_graph::Graph;
 use indexmap::IndexSet;
 use mf_list::{Memory, Seq};
 use std::alloc::Global;
-use ts_domain::row;
+use crate::rows::row;
 
 fn add_node(nodes: &mut IndexSet<usize>, node: usize) -> Result<(), Memory>
     ensures { OnOk result (nodes.new.keys ≡ insert_key nat_eq nodes.old.keys node) }

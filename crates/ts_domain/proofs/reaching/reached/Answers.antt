@@ -3,9 +3,9 @@ use Rattle.std.specs.List.{flat_map}
 use Rattle.std.proofs.lemmas.Option.{slice_get-get_or}
 use Rattle.indexmap.specs.IndexSet.{insert_all}
 use Rattle.ts_domain.specs.Rows.{row}
-use Rattle.typestate_fixpoint.specs.Steps.{target}
-use Rattle.typestate_fixpoint.proofs.ReachLaws.{walked_all, walked_few, walked_on, walked_start}
-use Rattle.typestate_fixpoint.proofs.reached.reached.Goals as goal
+use Rattle.ts_domain.specs.Reaching.{target}
+use Rattle.ts_domain.proofs.ReachLaws.{walked_all, walked_few, walked_on, walked_start}
+use Rattle.ts_domain.proofs.reaching.reached.Goals as goal
 
 pub loop-done-init : goal.loop-done-init
 loop-done-init c =

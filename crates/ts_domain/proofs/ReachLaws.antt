@@ -13,10 +13,10 @@ use Rattle.mf_set.proofs.NumberLaws.{Contains-has}
 use Rattle.ts_domain.specs.Path.{Reached, here, along}
 use Rattle.ts_domain.specs.Rows.{row, AreRows}
 use Rattle.ts_domain.proofs.Members.{any_at, any_from, at_first, at_later, in_flat_map, of_flat_map}
-use Rattle.typestate_fixpoint.specs.Steps.{ends_of, from_of, target, BeginsAt}
-use Rattle.typestate_fixpoint.specs.Worklist.{IsClosed, Leads, Walked}
-use Rattle.typestate_fixpoint.proofs.KeyLaws.{closed_on, element_at, element_from, first_or, keys_from, keys_keep, keys_once, keys_stay}
-use Rattle.typestate_fixpoint.proofs.RowPlaces.{in_row, row_begins}
+use Rattle.ts_domain.specs.Reaching.{ends_of, from_of, target, BeginsAt}
+use Rattle.ts_domain.specs.Reaching.{IsClosed, Leads, Walked}
+use Rattle.ts_domain.proofs.KeyLaws.{closed_on, element_at, element_from, first_or, keys_from, keys_keep, keys_once, keys_stay}
+use Rattle.ts_domain.proofs.RowPlaces.{in_row, row_begins}
 
 -- the nodes that edges lead to
 

@@ -1,6 +1,6 @@
 use Rattle.std.proofs.Common.{◌+◌, ◌-◌, length}
-use Rattle.typestate_fixpoint.specs.Worklist.{Walked}
-use Rattle.typestate_fixpoint.proofs.reached.reached.Given as goal
+use Rattle.ts_domain.specs.Reaching.{Walked}
+use Rattle.ts_domain.proofs.reaching.reached.Given as goal
 
 abbrev pub invariant-loop-done : goal.invariant-loop-done
 invariant-loop-done l = Walked l.graph l.done l.nodes.keys
