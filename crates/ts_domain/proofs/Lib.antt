@@ -51,13 +51,10 @@ pub mod NamedFrees
 pub mod GapFrees
 pub mod Members
 pub mod DerivedLaws
-<<<<<<< ours
 pub mod DerivedMarks
 pub mod ChosenLaws
 pub mod Precedence
 pub mod RangeLaws
-=======
 pub mod KeyLaws
 pub mod RowPlaces
 pub mod ReachLaws
->>>>>>> theirs

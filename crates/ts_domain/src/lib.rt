@@ -52,12 +52,9 @@ pub use naming::number;
 pub use numbering::{pointer_fields, pointer_vars, pointing_fields, sites_of};
 pub use pointers::{Pointer, field_place, field_type, is_pointer, place_of};
 pub use posts::{born, deeds_born, deeds_post, post};
-<<<<<<< ours
 pub use redraw::{copied, expressions, verdict};
-=======
 pub use redraw::{copied, verdict};
 pub use reaching::reached;
->>>>>>> theirs
 pub use rows::{row, rows_of};
 pub use sites::{field_at, flows, makes_struct, struct_of};
 pub use splits::split;
