@@ -14,13 +14,14 @@ use Rattle.call_contexts.specs.Contexts.{contexts}
 use Rattle.call_contexts.specs.declared.context.Ctx.{Ctx}
 use Rattle.c_graph.specs.Filled.{filled_graph, filled_node}
 use Rattle.c_graph.specs.Nodes.{graph}
-use Rattle.c_graph.specs.Ways.{ways_at, NodeWays}
+use Rattle.c_graph.specs.Ways.{ways_at, LeadsToNodes, NodeWays}
 use Rattle.c_graph.specs.declared.graph.Edge.{Edge}
 use Rattle.c_graph.specs.declared.graph.Graph.{Graph}
 use Rattle.c_graph.specs.declared.graph.NodeKind.{NodeKind}
 use Rattle.c_graph.specs.declared.graph.NodeKind.TheVariants.{Gap, Act, Exit}
 use Rattle.c_graph.specs.declared.graph.Way.{Way}
 use Rattle.c_graph.specs.declared.graph.Way.TheVariants as way
+use Rattle.c_graph.proofs.EdgeEnds.{leads_to_nodes}
 use Rattle.c_graph.proofs.EdgeWays.{edge_of_way, has_its_ways}
 use Rattle.c_graph.proofs.FilledGraphs.{graph_of_fill}
 use Rattle.mf_set.specs.Numbers.{Numbers}
@@ -37,7 +38,7 @@ use Rattle.ts_domain.specs.declared.facts.Facts.{Facts}
 use Rattle.ts_domain.specs.declared.names.Names.{Names}
 use Rattle.ts_domain.specs.declared.triples.Derived.{Derived}
 use Rattle.cover_certificate.specs.Closed.{failing, IsBroken, IsClosed}
-use Rattle.cover_certificate.specs.Making.{IsMade}
+use Rattle.cover_certificate.specs.Making.{ClosesCover, IsMade}
 use Rattle.cover_certificate.specs.Regular.{are_vars, ascends as ascends_by, field_before, has_room, is_regular, mark_before}
 use Rattle.cover_certificate.specs.declared.types.Cert.{Cert}
 use Rattle.cover_certificate.specs.declared.types.CertMark.{CertMark}
@@ -123,3 +124,12 @@ every_cover_closes p w n f d s c names order may path derived narrow ascending c
       cover = cover;
       made = made;
     }))
+
+-- the same of any graph of the program, by what a certificate is made of
+pub closes_cover : (n : Names) (g : Graph) (f : Facts) (d : Derived) (s : Choice) (c : Cert) → IsAscending s
+    → (LeadsToNodes g → IsMay n g f.may → IsPath n g f.path → AreDerived n g f d → IsMade n g f d s c) → ClosesCover n g f d s c
+closes_cover n g f d s c ascending made p w is names order may path derived narrow cover =
+    subst (λ (h : Graph). AreNames p h n → IsMay n h f.may → IsPath n h f.path → AreDerived n h f d → (HasWideEdge n h f → ⊥) → IsCover h n f.path d s
+    → (LeadsToNodes h → IsMay n h f.may → IsPath n h f.path → AreDerived n h f d → IsMade n h f d s c) → IsClosed n (graph (fill p s) (contexts (fill p s))) c) (sym is)
+    (λ names may path derived narrow cover made. every_cover_closes p w n f d s c names order may path derived narrow ascending cover (made (leads_to_nodes p w) may path derived))
+    names may path derived narrow cover made

@@ -12,7 +12,7 @@ ghost use Rattle.ts_domain.specs.May.{IsMay};
 ghost use Rattle.ts_domain.specs.Path.{IsPath};
 ghost use Rattle.cover_certificate.specs.declared.lines.Line.{Line};
 ghost use Rattle.cover_certificate.specs.Lines.{is_same, line_by, line_cmp, AreLines};
-ghost use Rattle.cover_certificate.specs.Making.{IsMade};
+ghost use Rattle.cover_certificate.specs.Making.{ClosesCover, IsMade};
 ghost use Rattle.cover_certificate.specs.Regular.{is_open};
 
 use crate::copies::{may_copy, path_copy};
@@ -175,6 +175,7 @@ pub fn make(
 ) -> Result<Cert, Memory>
     requires { IsAscending choice.now }
     ensures made { LeadsToNodes graph.now → IsMay names.now graph.now facts.now.may → IsPath names.now graph.now facts.now.path → AreDerived names.now graph.now facts.now derived.now → IfOk result (IsMade names.now graph.now facts.now derived.now choice.now) }
+    ensures closes { IfOk result (ClosesCover names.now graph.now facts.now derived.now choice.now) }
 {
     let marks = marks_of(alloc, names, choice, derived.triples.as_slice())?;
     let may = may_copy(alloc, &facts.may)?;
