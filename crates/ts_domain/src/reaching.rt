@@ -6,11 +6,11 @@ ghost use Rattle.ts_domain.specs.Path.{Reached};
 ghost use Rattle.ts_domain.specs.Rows.{AreRows};
 ghost use Rattle.ts_domain.specs.Reaching.{from_of, target};
 
+use crate::rows::row;
 use c_graph::Graph;
 use indexmap::IndexSet;
 use mf_list::{Memory, Seq};
 use std::alloc::Global;
-use crate::rows::row;
 
 fn add_node(nodes: &mut IndexSet<usize>, node: usize) -> Result<(), Memory>
     ensures { OnOk result (nodes.new.keys ≡ insert_key nat_eq nodes.old.keys node) }
