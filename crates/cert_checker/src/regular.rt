@@ -108,7 +108,7 @@ fn are_facts(graph: &Graph, names: &Names, numbering: &Numbering, path: &Path) -
     path.at.len() == graph.nodes.len() && have_room(numbering.count, path.at.as_slice())
 }
 
-fn expressions(names: &Names) -> usize
+fn expression_count(names: &Names) -> usize
     ensures { result ≡ expressions names.now }
 {
     let vars = names.vars.as_slice();
@@ -119,7 +119,7 @@ fn expressions(names: &Names) -> usize
 fn is_mark(graph: &Graph, names: &Names, mark: &CertMark) -> bool
     ensures { result ≡ is_mark names.now graph.now mark.now }
 {
-    let count = expressions(names);
+    let count = expression_count(names);
     mark.node < graph.nodes.len()
         && (mark.mark.site < names.sites.len()
             && (has_room(count, &mark.mark.holds)
@@ -244,7 +244,7 @@ fn are_marks(
     if !all_marks(graph, names, marks) {
         return Ok(false);
     }
-    marks_ascend(alloc, expressions(names), marks)
+    marks_ascend(alloc, expression_count(names), marks)
 }
 
 /// Whether a certificate is regular.

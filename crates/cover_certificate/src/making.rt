@@ -24,7 +24,7 @@ use mf_list::{Memory, Seq};
 use mf_set::BitSet;
 use std::alloc::Global;
 use std::cmp::Ordering;
-use ts_domain::{Derived, Facts, Mark, Names, Triple, copied, expressions, is_chosen};
+use ts_domain::{Derived, Facts, Mark, Names, Triple, copied, expression_count, is_chosen};
 
 fn insert_if(set: &mut BitSet, passes: bool, number: usize)
     requires { number < set.old.room }
@@ -74,7 +74,7 @@ fn is_common(one: &BitSet, other: &BitSet) -> bool
 fn line_by(alloc: Global, names: &Names, chosen: &BitSet, triple: &Triple) -> Result<Line, Memory>
     ensures { IfOk result (λ line. line ≡ line_by names.now chosen.now.items triple.now) }
 {
-    let undecided = open_below(alloc, expressions(names), &triple.mark)?;
+    let undecided = open_below(alloc, expression_count(names), &triple.mark)?;
     let mark = copied(alloc, &triple.mark)?;
     let freed = is_common(&triple.puts, chosen);
     Ok(Line {

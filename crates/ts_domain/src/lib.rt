@@ -53,7 +53,7 @@ pub use numbering::{pointer_fields, pointer_vars, pointing_fields, sites_of};
 pub use pointers::{Pointer, field_place, field_type, is_pointer, place_of};
 pub use posts::{born, deeds_born, deeds_post, post};
 pub use reaching::reached;
-pub use redraw::{copied, expressions, verdict};
+pub use redraw::{copied, expression_count, verdict};
 pub use rows::{row, rows_of};
 pub use sites::{field_at, flows, makes_struct, struct_of};
 pub use splits::split;

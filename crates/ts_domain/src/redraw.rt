@@ -210,7 +210,7 @@ fn changed(known: Known, mark: &Mark, change: Change, expression: usize) -> Verd
 }
 
 /// How many expressions there are.
-pub fn expressions(names: &Names) -> usize
+pub fn expression_count(names: &Names) -> usize
     ensures { result ≡ expressions names.now }
 {
     let vars = names.vars.as_slice();
@@ -256,7 +256,7 @@ fn decide(mark: &mut Mark, expression: usize, verdict: Verdict)
 pub fn redrawn(alloc: Global, known: Known, mark: &Mark, change: Change) -> Result<Mark, Memory>
     ensures { IfOk result (λ m. m ≡ redrawn (knowledge known.entry) mark.now change) }
 {
-    let count = expressions(known.names);
+    let count = expression_count(known.names);
     let mut drawn = open_mark(alloc, mark.site, count)?;
     for expression in 0..count {
         decide(

@@ -9,7 +9,7 @@ use crate::entry::{Entry, Notes};
 use crate::known::Known;
 use crate::marks::{Mark, Step, Verdict};
 use crate::names::{Names, Read};
-use crate::redraw::{copied, expressions};
+use crate::redraw::{copied, expression_count};
 use crate::sites::field_at;
 use crate::splits::splits;
 use crate::writes::{looked_verdict, settled, written_mark};
@@ -134,7 +134,7 @@ fn is_held_field(names: &Names, mark: &Mark, variable: usize, expression: usize)
 fn holds_beneath(names: &Names, mark: &Mark, variable: usize) -> bool
     ensures { result ≡ holds_beneath names.now mark.now variable }
 {
-    for expression in 0..expressions(names) {
+    for expression in 0..expression_count(names) {
         if is_held_field(names, mark, variable, expression) {
             return true;
         }

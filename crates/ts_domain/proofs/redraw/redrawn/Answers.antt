@@ -13,4 +13,4 @@ loop-expression-preserved c =
     decided
     ∙ ap (λ u. with_verdict l.drawn l.expression u) c.changed.ensures
     ∙ ap (λ d. with_verdict d l.expression (changed k m c.args.change l.expression)) l.invariant
-    ∙ draw_more l.expression c.expressions-count.result m.site (changed k m c.args.change)
+    ∙ draw_more l.expression c.expression_count-count.result m.site (changed k m c.args.change)

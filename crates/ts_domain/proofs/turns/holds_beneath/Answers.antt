@@ -11,10 +11,10 @@ returns-then-is_held_field c =
     let x = c.args.variable in
     let e = c.loop-expression.expression in
     let held : is_held_field n m x e ≡ true = search rules in
-    let within : e < c.expressions-expression-end.result = search rules in
-    let below : suc e ≤ c.expressions-expression-end.result = omega arith in
-    sym (any_at (is_held_field n m x) c.expressions-expression-end.result e below held)
-    ∙ ap (λ k. list_any (is_held_field n m x) (range_with_len 0 k)) c.expressions-expression-end.ensures
+    let within : e < c.expression_count-expression-end.result = search rules in
+    let below : suc e ≤ c.expression_count-expression-end.result = omega arith in
+    sym (any_at (is_held_field n m x) c.expression_count-expression-end.result e below held)
+    ∙ ap (λ k. list_any (is_held_field n m x) (range_with_len 0 k)) c.expression_count-expression-end.ensures
 
 pub loop-expression-preserved : goal.loop-expression-preserved
 loop-expression-preserved c =
