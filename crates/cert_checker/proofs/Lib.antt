@@ -10,3 +10,4 @@ pub mod EdgeLaws
 pub mod Places
 pub mod ReasonLaws
 pub mod FirstLaws
+pub mod CheckLaws

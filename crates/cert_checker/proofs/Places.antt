@@ -4,12 +4,13 @@ use Rattle.std.specs.List.{filter, list_any, range_with_len}
 use Rattle.c_tree.specs.Typing.{has}
 use Rattle.c_graph.specs.declared.graph.Edge.{Edge}
 use Rattle.c_graph.specs.declared.graph.Graph.{Graph}
+use Rattle.ts_domain.specs.Reaching.{from_of}
 use Rattle.ts_domain.specs.Rows.{AreRows, is_key, row}
 use Rattle.ts_domain.proofs.RowLaws.{places_keyed}
 use Rattle.cover_certificate.specs.declared.types.Cert.{Cert}
 use Rattle.cover_certificate.specs.declared.types.CertMark.{CertMark}
 use Rattle.cover_certificate.specs.Closed.{some_edge, some_mark}
-use Rattle.cert_checker.specs.Checking.{any_at, from_of, node_of, passes}
+use Rattle.cert_checker.specs.Checking.{any_at, node_of, passes}
 
 any_filter : (f p : ℕ → Bool) (xs : List ℕ) → list_any f (filter p xs) ≡ list_any (λ i. p i && f i) xs
 any_filter f p [] = refl

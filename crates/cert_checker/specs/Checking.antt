@@ -1,5 +1,5 @@
 -- What a check keeps at hand, and tests of edges and marks by their places.
-use Rattle.std.specs.Prelude.{◌≡◌, ℕ, ◌+◌, ◌==◌, ◌&&◌, ◌||◌, Bool, true, false, not, List, [], ◌∷◌, map, slice_get, Option, None, Some, if◌then◌else◌}
+use Rattle.std.specs.Prelude.{◌≡◌, ℕ, ◌+◌, ◌==◌, ◌&&◌, ◌||◌, Bool, true, false, not, List, [], ◌∷◌, ◌++◌, map, slice_get, Option, None, Some, if◌then◌else◌}
 use Rattle.std.specs.List.{list_any}
 use Rattle.c_tree.specs.Typing.{has}
 use Rattle.c_tree.specs.declared.program.Free.{Free}
@@ -15,6 +15,7 @@ use Rattle.ts_domain.specs.Deeds.{edge_deeds, is_null}
 use Rattle.ts_domain.specs.Marks.{items_of}
 use Rattle.ts_domain.specs.Path.{holds_at}
 use Rattle.ts_domain.specs.Post.{at_edge, is_wide_edge, post}
+use Rattle.ts_domain.specs.Reaching.{from_of}
 use Rattle.ts_domain.specs.Rows.{AreRows, row}
 use Rattle.path_facts.specs.Numbering.{holds, room_of}
 use Rattle.cover_certificate.specs.declared.types.CertMark.{CertMark}
@@ -24,9 +25,6 @@ use Rattle.cert_checker.specs.declared.checking.Question.{Question}
 use Rattle.cert_checker.specs.declared.checking.Question.TheVariants as question
 
 -- keys
-
-abbrev pub from_of : Edge → Option ℕ
-from_of e = Some e.from
 
 abbrev pub node_of : CertMark → Option ℕ
 node_of m = Some m.node
@@ -119,19 +117,32 @@ edges_failing k q ks v = any_at (edge_fails k q ks (row k.marks.now v)) k.graph.
 abbrev pub facts_failing : Checking → List (Option ℕ) → ℕ → Bool
 facts_failing k ks v = v == 0 && is_false_at_start k.names.now k.cert.now.path || edges_failing k question.Fact ks v
 
--- whether each condition fails at a node, from the second on; the third and the fourth where it is reached
-abbrev pub failing_by : Checking → Bool → List (Option ℕ) → ℕ → List Bool
-failing_by k reached ks v =
+-- whether each condition fails at a node: those on edges but posts, the third and the fourth where the node is reached; those on
+-- frees; and those on posts and exits
+abbrev pub failing_over : Checking → Bool → List (Option ℕ) → ℕ → List Bool
+failing_over k reached ks v =
     edges_failing k question.Flow ks v
     ∷ (reached && facts_failing k ks v)
     ∷ (reached && edges_failing k question.Birth ks v)
     ∷ edges_failing k question.Touch ks v
-    ∷ list_any (is_unsure_by k v (row k.marks.now v)) (frees_at k.graph.now v)
+    ∷ []
+
+abbrev pub failing_in : Checking → List (Option ℕ) → ℕ → List Bool
+failing_in k ks v =
+    list_any (is_unsure_by k v (row k.marks.now v)) (frees_at k.graph.now v)
     ∷ any_at (reads_when_freed k.names.now ks) k.cert.now.marks (row k.marks.now v)
     ∷ any_at (frees_twice ks) k.cert.now.marks (row k.marks.now v)
-    ∷ edges_failing k question.Post ks v
+    ∷ []
+
+abbrev pub failing_behind : Checking → List (Option ℕ) → ℕ → List Bool
+failing_behind k ks v =
+    edges_failing k question.Post ks v
     ∷ (is_exit_at k.graph.now v && any_at is_unfreed k.cert.now.marks (row k.marks.now v))
     ∷ []
+
+-- all of them, from the second on
+abbrev pub failing_by : Checking → Bool → List (Option ℕ) → ℕ → List Bool
+failing_by k reached ks v = failing_over k reached ks v ++ (failing_in k ks v ++ failing_behind k ks v)
 
 abbrev pub reasons : Checking → Bool → ℕ → List Bool
 reasons k reached v = failing_by k reached (names_freed k.names.now k.graph.now v) v

@@ -2,11 +2,17 @@
 #![tactic(auto)]
 
 mod checking;
+mod closed;
 mod copies;
 mod edges;
 mod facts;
 mod flows;
 mod frees;
 mod matching;
+mod nodes;
 mod posts;
+mod refusal;
 mod regular;
+
+pub use closed::check;
+pub use refusal::CheckRefusal;

@@ -3,7 +3,6 @@ ghost use Rattle.std.specs.Prelude.{◌≡◌, ◌++◌, [], ◌∷◌, cond, If
 ghost use Rattle.std.specs.List.{list_all};
 ghost use Rattle.std.specs.Ordering.{nat_cmp};
 ghost use Rattle.c_tree.specs.Typing.{has};
-ghost use Rattle.ts_domain.specs.Marks.{expressions};
 ghost use Rattle.ts_domain.specs.Pointers.{field_type, is_pointer};
 ghost use Rattle.path_facts.specs.Numbering.{IsNumbering};
 ghost use Rattle.cover_certificate.specs.Regular.{are_facts, are_fields, are_marks, are_vars, ascends, bit_before, by_order, field_before, has_room, held_before, is_field, is_mark, is_open, is_pointer_field, is_regular, mark_before, next_after, open_before, open_below};
@@ -15,7 +14,7 @@ use mf_set::BitSet;
 use path_facts::Numbering;
 use std::alloc::Global;
 use std::cmp::Ordering;
-use ts_domain::{Mark, May, Names, Path, field_type, is_pointer, struct_of};
+use ts_domain::{Mark, May, Names, Path, expression_count, field_type, is_pointer, struct_of};
 
 fn has_room(room: usize, set: &BitSet) -> bool
     ensures { result ≡ has_room room set.now }
@@ -106,14 +105,6 @@ fn are_facts(graph: &Graph, names: &Names, numbering: &Numbering, path: &Path) -
     ensures { result ≡ are_facts names.now graph.now path.now }
 {
     path.at.len() == graph.nodes.len() && have_room(numbering.count, path.at.as_slice())
-}
-
-fn expression_count(names: &Names) -> usize
-    ensures { result ≡ expressions names.now }
-{
-    let vars = names.vars.as_slice();
-    let fields = names.fields.as_slice();
-    vars.len() + fields.len()
 }
 
 fn is_mark(graph: &Graph, names: &Names, mark: &CertMark) -> bool
