@@ -12,7 +12,7 @@ use Rattle.ts_domain.specs.Derived.{behind, forbidden_at, pairs_at, put_follows,
 use Rattle.ts_domain.specs.Path.{Reached}
 use Rattle.ts_domain.specs.Rows.{row, AreRows}
 use Rattle.typestate_fixpoint.specs.Gaps.{same_pair, HasMore}
-use Rattle.ts_domain.specs.Reaching.{from_of}
+use Rattle.ts_domain.specs.Reaching.{from_of, IsClosed}
 use Rattle.typestate_fixpoint.specs.Steps.{same_triple, HasWide, PassesAll}
 
 -- triples
