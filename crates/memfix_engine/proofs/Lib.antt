@@ -1,7 +1,25 @@
+pub mod AloneOffsets
+pub mod BareGaps
 pub mod CommandLemmas
 pub mod ConstructLemmas
-pub mod First
+pub mod CoverScope
+pub mod CoversAgree
+pub mod DerivedAgree
+pub mod EdgesAgree
+pub mod FactsAgree
+pub mod FilledAlike
+pub mod GapFunctions
+pub mod GapPlaces
+pub mod LimitsAgree
+pub mod NamedPuts
 mod NotesExamples
 pub mod NotesLemmas
+pub mod OwnChoice
+pub mod OwnFrees
+pub mod OwnText
+pub mod OwnWalk
 pub mod ReadsLemmas
 pub mod RequestLemmas
+pub mod RowVariables
+pub mod ScopeLists
+pub mod Unchanged

@@ -124,7 +124,6 @@ refused_tokens ts (source.Lex r) p h other k = h
 refused_tokens ts (source.Parse r) p h other k = unparsed_not_read ts r p h k
 refused_tokens ts (source.Resolve r) p h other k =
     ill_typed_not_made k.tree r p (subst (λ t. IsAnswer t (Err r)) (sym (h.parsed.1 k.tree k.generates)) h.refuses.answer) h.refuses.caused k.program k.acyclic
-refused_tokens ts (source.NotBuilt at) p h other k = h
 refused_tokens ts source.Memory p h other k = other refl
 
 -- the program of the text's tokens is that of any tokens of the text
@@ -135,7 +134,6 @@ pub refused_source : (b : List ℕ) (r : SourceRefusal) → RefusesSource b r �
 refused_source b (source.Lex r) h other p k = tokens_not_lexical b k.tokens r k.are h
 refused_source b (source.Parse r) h other p k = refused_tokens h.tokens (source.Parse r) p h.refuses other (program_here b h.tokens p h.are k)
 refused_source b (source.Resolve r) h other p k = refused_tokens h.tokens (source.Resolve r) p h.refuses other (program_here b h.tokens p h.are k)
-refused_source b (source.NotBuilt at) h other p k = h
 refused_source b source.Memory h other p k = other refl
 
 -- the tokens of a text are refused so
@@ -144,7 +142,6 @@ pub refused_behind : (b : List ℕ) (ts : Tokens) (r : SourceRefusal) → AreTok
 refused_behind b ts (source.Lex r) h k = absurd k
 refused_behind b ts (source.Parse r) h k = record { tokens = ts; are = h; refuses = k }
 refused_behind b ts (source.Resolve r) h k = record { tokens = ts; are = h; refuses = k }
-refused_behind b ts (source.NotBuilt at) h k = absurd k
 refused_behind b ts source.Memory h k = tt
 
 -- the same, for an answer
@@ -163,5 +160,4 @@ pub replay_refused : (b : List ℕ) (r : SourceRefusal) → length b ≤ source_
 replay_refused b (source.Lex r) fits h = (fits, h, λ e. cc e)
 replay_refused b (source.Parse r) fits h = (fits, h, λ e. cc e)
 replay_refused b (source.Resolve r) fits h = (fits, h, λ e. cc e)
-replay_refused b (source.NotBuilt at) fits h = (fits, h, λ e. cc e)
 replay_refused b source.Memory fits h = tt

@@ -1,8 +1,11 @@
+pub mod Analysing
+pub mod Analysis
+pub mod Choosing
 pub mod Command
-pub mod Edit
-pub mod First
 pub mod Notes
 pub mod Outcome
+pub mod OwnFrees
+pub mod OwnPuts
 pub mod Refusal
 pub mod Repair
 pub mod Replay

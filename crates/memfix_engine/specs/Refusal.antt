@@ -39,7 +39,6 @@ abbrev pub RefusesTokens : Tokens → SourceRefusal → Type 0
 RefusesTokens tokens (source.Lex r) = ⊥
 RefusesTokens tokens (source.Parse r) = IsUnparsed tokens r
 RefusesTokens tokens (source.Resolve r) = IsUnresolved tokens r
-RefusesTokens tokens (source.NotBuilt at) = ⊥
 RefusesTokens tokens source.Memory = Unit {0}
 
 -- the lexer refuses nothing in the text, and its tokens are refused so
@@ -53,7 +52,6 @@ abbrev pub RefusesSource : List ℕ → SourceRefusal → Type 0
 RefusesSource b (source.Lex r) = Answers b (Err r)
 RefusesSource b (source.Parse r) = RefusesLexed b (source.Parse r)
 RefusesSource b (source.Resolve r) = RefusesLexed b (source.Resolve r)
-RefusesSource b (source.NotBuilt at) = ⊥
 RefusesSource b source.Memory = Unit {0}
 
 -- at most so many bytes are read

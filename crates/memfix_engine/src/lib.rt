@@ -3,8 +3,6 @@
 
 mod command;
 mod constructs;
-mod edit;
-mod first_form;
 mod notes;
 mod outcome;
 mod refusal;

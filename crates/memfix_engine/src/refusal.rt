@@ -2,6 +2,7 @@
 
 use c_lexer::LexRefusal;
 use c_parser::ParseRefusal;
+use c_tree::Limit;
 use c_types::TypeRefusal;
 use std::alloc::AllocError;
 use thiserror::Error;
@@ -15,10 +16,6 @@ pub enum SourceRefusal {
     Parse(ParseRefusal),
     #[error("against the rules of names and types")]
     Resolve(TypeRefusal),
-    /// Of `repair` alone: the text has a program, but is of no form that is built; the offset is that of the first token
-    /// such that no text of that form begins with the tokens up to it, or the size of the text.
-    #[error("not built yet at byte {0}")]
-    NotBuilt(usize),
     #[error("out of memory")]
     Memory,
 }
@@ -30,11 +27,20 @@ pub enum RepairRefusal {
     TooLong,
     #[error("{0}")]
     Source(SourceRefusal),
+    /// A count passes its limit.
+    #[error("a limit is passed")]
+    Limit(Limit),
+    /// The object of the `malloc` at the first offset can't be freed on the way to the `return` or the closing brace at the second.
+    #[error("no free fits the object of byte {0} on the way to byte {1}")]
+    Alone(usize, usize),
+    /// Each object by itself could be freed, but no choice frees all.
+    #[error("no choice of frees fits")]
+    Together,
     #[error("out of memory")]
     Memory,
 }
 
-/// Why a text is not replayed. What `Source` holds is neither `NotBuilt` nor `Memory`.
+/// Why a text is not replayed. What `Source` holds is not `Memory`.
 #[derive(Clone, Copy, Debug, PartialEq, Eq, Error)]
 pub enum ReplayRefusal {
     #[error("too long")]

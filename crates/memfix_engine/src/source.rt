@@ -6,7 +6,6 @@ ghost use Rattle.c_tree.specs.WellFormed.{IsWellFormed};
 ghost use Rattle.c_tree.specs.declared.program.Program.{Program};
 ghost use Rattle.c_types.specs.Program.{IsAnswer as IsResolved};
 ghost use Rattle.source_patcher.specs.Reads.{HasProgram, Reads, ReadsWithin};
-ghost use Rattle.memfix_engine.specs.First.Others.{RefusesText};
 ghost use Rattle.memfix_engine.specs.Refusal.{RefusesSource, RefusesTokens, RefusesTree};
 ghost use Rattle.memfix_engine.specs.declared.refusal.SourceRefusal.TheVariants.{Memory};
 
@@ -21,7 +20,6 @@ use std::alloc::Global;
 pub(crate) fn tokens_of(alloc: Global, bytes: &[u8]) -> Result<Tokens, SourceRefusal>
     ensures tokens { IfOk result (AreTokens bytes.now) }
     ensures refused { IfErr result (RefusesSource bytes.now) }
-    ensures lexical { IfErr result (RefusesText bytes.now) }
 {
     match lex(alloc, bytes) {
         Ok(tokens) => Ok(tokens),

@@ -1,5 +1,0 @@
-use Rattle.std.proofs.Common.{◌≡◌, take, flat_map}
-use Rattle.memfix_engine.proofs.first_form.own.freed_vars.Given as goal
-
-abbrev pub invariant-loop-free : goal.invariant-loop-free
-invariant-loop-free l = l.list ≡ flat_map (λ f. f.vars) (take l.free-index l.frees)
