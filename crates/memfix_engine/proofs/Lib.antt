@@ -1,5 +1,8 @@
 pub mod AloneOffsets
+pub mod AnalysisLaws
 pub mod BareGaps
+pub mod Certified
+pub mod ChoosingLaws
 pub mod CommandLemmas
 pub mod ConstructLemmas
 pub mod CoverScope
@@ -10,6 +13,7 @@ pub mod FactsAgree
 pub mod FilledAlike
 pub mod GapFunctions
 pub mod GapPlaces
+pub mod HintLaws
 pub mod LimitsAgree
 pub mod NamedPuts
 mod NotesExamples
@@ -19,6 +23,7 @@ pub mod OwnFrees
 pub mod OwnText
 pub mod OwnWalk
 pub mod ReadsLemmas
+pub mod Repaired
 pub mod RequestLemmas
 pub mod RowVariables
 pub mod ScopeLists

@@ -92,7 +92,7 @@ closed_cyclic : (calls : List UserCall) (n : ℕ) → IsCyclic (take n calls) �
 closed_cyclic calls n = cyclic_among (take n calls) calls (λ c h. subst (λ cs. Contains cs c) (take-append-drop n calls) (Contains-append_left (take n calls) _ c h))
 
 -- a tree has one program
-same_program : (t : Tree) (p q : Program) → IsProgram t p → IsProgram t q → p ≡ q
+pub same_program : (t : Tree) (p q : Program) → IsProgram t p → IsProgram t q → p ≡ q
 same_program t p q h k =
     let main : p.main ≡ q.main = same_Some p.main q.main (sym h.main ∙ k.main) in
     h.made ∙ ap (made_program (walked t)) main ∙ sym k.made

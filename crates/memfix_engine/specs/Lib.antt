@@ -2,12 +2,15 @@ pub mod Analysing
 pub mod Analysis
 pub mod Choosing
 pub mod Command
+pub mod Covers
 pub mod Notes
 pub mod Outcome
 pub mod OwnFrees
 pub mod OwnPuts
+pub mod Parts
 pub mod Refusal
 pub mod Repair
+pub mod Repairing
 pub mod Replay
 pub mod Request
 pub mod Stream

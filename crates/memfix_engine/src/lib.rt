@@ -1,10 +1,14 @@
 //! The repair and the replay of a C text, from bytes to bytes.
 #![tactic(auto)]
 
+mod analysis;
+mod certifying;
+mod choosing;
 mod command;
 mod constructs;
 mod notes;
 mod outcome;
+mod own_frees;
 mod refusal;
 mod repairs;
 mod replays;
