@@ -1,5 +1,5 @@
 -- The parts that are found one after the other are an analysis, and what refuses one of them refuses it.
-use Rattle.std.proofs.Common.{◌≡◌, ◌<◌, ◌≤◌, ℕ, length, Result, Ok, Err, None, Some, IfErr, IsTrue, refl, sym, subst, ap, ◌∙◌}
+use Rattle.std.proofs.Common.{◌≡◌, ◌<◌, ◌≤◌, length, Result, Ok, Err, None, Some, IfErr, IsTrue, refl, sym, subst, ap, ◌∙◌}
 use Rattle.c_tree.specs.Fill.{ascends}
 use Rattle.c_tree.specs.declared.limits.Limit.{Limit}
 use Rattle.c_tree.specs.declared.limits.Limit.TheVariants as limit
@@ -10,7 +10,6 @@ use Rattle.call_contexts.specs.Contexts.{contexts}
 use Rattle.c_graph.specs.Nodes.{graph}
 use Rattle.c_graph.specs.declared.graph.Graph.{Graph}
 use Rattle.sat_log.specs.Clauses.{AreBelow}
-use Rattle.sat_log.specs.declared.problem.Clauses.{Clauses}
 use Rattle.ts_domain.specs.declared.facts.Facts.{Facts}
 use Rattle.ts_domain.specs.declared.names.Names.{Names}
 use Rattle.ts_domain.specs.declared.triples.Derived.{Derived}

@@ -1,7 +1,7 @@
 -- What a search for a cover finds is the choice of the repair, or refuses it.
-use Rattle.std.proofs.Common.{◌≡◌, ◌↔◌, ℕ, List, Bool, true, false, length, None, Some, IsTrue, refl, sym, subst, ap, ◌∙◌}
+use Rattle.std.proofs.Common.{◌≡◌, ◌↔◌, ℕ, List, Bool, true, false, None, Some, IsTrue, sym, subst, ◌∙◌}
 use Rattle.std.proofs.lemmas.Bool.{true≢false}
-use Rattle.c_tree.specs.Fill.{IsAscending, ascends}
+use Rattle.c_tree.specs.Fill.{ascends}
 use Rattle.c_tree.specs.WellFormed.{IsWellFormed}
 use Rattle.c_tree.specs.declared.choice.Choice.{Choice}
 use Rattle.c_tree.specs.declared.program.Program.{Program}
@@ -11,7 +11,7 @@ use Rattle.sat_log.specs.declared.problem.Clauses.{Clauses}
 use Rattle.ts_domain.specs.declared.names.Names.{Names}
 use Rattle.cover_problem.specs.declared.types.Problem.{Problem}
 use Rattle.cover_problem.specs.Alone.{LeastAlone}
-use Rattle.cover_problem.specs.Problem.{HasRooms, IsCoverOf, IsProblem}
+use Rattle.cover_problem.specs.Problem.{HasRooms, IsCoverOf}
 use Rattle.cover_clauses.specs.Clauses.{AreClauses, bits_of}
 use Rattle.memfix_engine.specs.Analysing.{IsAnalysis}
 use Rattle.memfix_engine.specs.Analysis.{HasFewStates, IsAlone, IsAnalysed, IsProblemIn, IsUncovered, exit_offset, graph_in, names_in, site_offset}

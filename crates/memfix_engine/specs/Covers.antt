@@ -1,5 +1,5 @@
 -- What a search for a cover comes to.
-use Rattle.std.specs.Prelude.{◌≡◌, ℕ, List, Option, Some, MatchOption}
+use Rattle.std.specs.Prelude.{◌≡◌, ℕ, Option, Some, MatchOption}
 use Rattle.c_tree.specs.Fill.{IsAscending}
 use Rattle.c_tree.specs.declared.choice.Choice.{Choice}
 use Rattle.c_tree.specs.declared.program.Program.{Program}

@@ -1,5 +1,4 @@
 -- The parts of an analysis, of a graph and its names.
-use Rattle.std.specs.Prelude.{◌≡◌, ℕ}
 use Rattle.c_graph.specs.declared.graph.Graph.{Graph}
 use Rattle.ts_domain.specs.declared.facts.Facts.{Facts}
 use Rattle.ts_domain.specs.declared.names.Names.{Names}

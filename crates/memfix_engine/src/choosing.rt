@@ -67,6 +67,7 @@ fn end_offset(kind: &NodeKind) -> Option<usize>
     }
 }
 
+/// That of a node, if there is one of that number.
 fn node_malloc(graph: &Graph, node: usize) -> Option<usize>
     ensures { result ≡ node_malloc graph.now node }
 {
@@ -216,7 +217,11 @@ fn own_cover(alloc: Global, program: &Program, problem: &Problem) -> Result<Opti
 }
 
 /// The cover with whose frees the gaps are filled.
-pub(crate) fn choose(alloc: Global, program: &Program, analysis: &Analysis) -> Result<Choice, RepairRefusal>
+pub(crate) fn choose(
+    alloc: Global,
+    program: &Program,
+    analysis: &Analysis,
+) -> Result<Choice, RepairRefusal>
     requires well_formed { IsWellFormed program.now }
     requires analysis { IsAnalysis program.now analysis.now }
     ensures chosen { IfOk result (IsChosenFor program.now analysis.now.problem) }

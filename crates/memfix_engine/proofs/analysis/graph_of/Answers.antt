@@ -1,10 +1,9 @@
 -- The graph is that of the program's contexts, or one of both counts passes its limit.
-use Rattle.std.proofs.Common.{rules, ◌≡◌, ◌<◌, ◌≤◌, length, Err, sym, subst, ap, ◌∙◌}
+use Rattle.std.proofs.Common.{rules, ◌≡◌, ◌<◌, ◌≤◌, length, Err, subst, ap, ◌∙◌}
 use Rattle.c_tree.specs.declared.limits.Limit.TheVariants as limit
 use Rattle.c_tree.specs.declared.limits.Refusal.TheVariants as refusal
 use Rattle.call_contexts.specs.Contexts.{contexts}
 use Rattle.c_graph.specs.Nodes.{graph}
-use Rattle.memfix_engine.specs.Analysis.{graph_in}
 use Rattle.memfix_engine.proofs.AnalysisLaws.{passes_contexts, passes_nodes, passing, refuses_result}
 use Rattle.memfix_engine.proofs.analysis.graph_of.Goals as goal
 
