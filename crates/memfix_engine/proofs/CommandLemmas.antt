@@ -1,27 +1,18 @@
 -- What the statuses say, from the outcome and what was written.
-use Rattle.std.proofs.Common.{◌≡◌, ◌⊎◌, inl, inr, ℕ, ◌+◌, ◌<◌, ◌≤◌, true, false, Option, None, Some, Err, List, [], ◌++◌, length, take, arith, refl, sym, ap, ◌∙◌, subst}
+use Rattle.std.proofs.Common.{◌≡◌, ◌⊎◌, inl, inr, ℕ, ◌≤◌, true, false, Option, None, Some, List, [], length, arith, refl, sym, ap, ◌∙◌, subst}
 use Rattle.std.proofs.lemmas.List.{append-nil}
 use Rattle.std.proofs.lemmas.Option.{same_Some}
-use Rattle.c_lexer.specs.declared.token.Tokens.{Tokens}
-use Rattle.c_lexer.specs.declared.refusal.LexRefusal.{LexRefusal}
-use Rattle.c_lexer.specs.declared.refusal.LexRefusal.TheVariants.{Depth}
-use Rattle.c_lexer.specs.Outcome.{AreTokens, Answers}
 use Rattle.mf_io.specs.Bytes.{Takes, WasLeft, MoreLeft}
 use Rattle.memfix_engine.specs.declared.outcome.Outcome.{Outcome}
 use Rattle.memfix_engine.specs.declared.outcome.Outcome.TheVariants as outcome
-use Rattle.memfix_engine.specs.declared.refusal.SourceRefusal.{SourceRefusal}
-use Rattle.memfix_engine.specs.declared.refusal.SourceRefusal.TheVariants as source
-use Rattle.memfix_engine.specs.declared.request.Replay.{Replay}
 use Rattle.memfix_engine.specs.declared.request.Request.{Request}
 use Rattle.memfix_engine.specs.declared.request.Request.TheVariants as request
-use Rattle.memfix_engine.specs.First.Reads.{ReadsFirst}
-use Rattle.memfix_engine.specs.Command.{Done, Due, refused, usage, too_long, too_deep, read_fault, memory, Noted, Cut, IsDue, Prints, CutLine, WriteFault, Accepts, IsStatusOf, IsStatus, Written, Wrote, whole, output_cut, notes_cut}
-use Rattle.memfix_engine.specs.Outcome.{ComesOf, ComesTo, OfText, IsReplay, Refuses, status_of, status_of_lex, status_of_source, output_of, notes_of, is_quiet, prints}
+use Rattle.memfix_engine.specs.Command.{Done, Due, refused, usage, alone, together, too_long, too_deep, past_limit, read_fault, memory, Noted, Cut, IsDue, Prints, CutLine, WriteFault, IsStatusOf, IsStatus, Written, Wrote, whole, output_cut, notes_cut}
+use Rattle.memfix_engine.specs.Outcome.{ComesTo, OfText, status_of, output_of, notes_of, is_quiet, prints}
+use Rattle.memfix_engine.specs.Notes.{limit_line, together_line}
 use Rattle.memfix_engine.specs.Refusal.{source_limit}
-use Rattle.memfix_engine.specs.Repair.{Repairs}
 use Rattle.memfix_engine.specs.Stream.{Stream, Took, Broke, Failed}
-use Rattle.memfix_engine.proofs.First.ReadsLemmas.{reads_lexed, refused_not_read}
-use Rattle.memfix_engine.proofs.ReadsLemmas.{tokens_not_lexical, lex_not_deep, deep_not_lexical, refused_source, same_tokens}
+use Rattle.memfix_engine.proofs.StatusLemmas.{status_repaired, status_replayed, status_refused, status_too_long, status_deep, status_past, status_stuck, status_tangled, status_memory}
 
 -- nothing is a proper part of no text
 none_broke : (s : Stream) → Broke s [] → ⊥
@@ -52,6 +43,9 @@ done_of words s output notes Quiet status (outcome.SourceRefused line) comes (wh
 done_of words s output notes Quiet status outcome.Usage comes (whole same took noted) is = absurd (let no : ⊥ = omega (arith, same, is) in no)
 done_of words s output notes Quiet status outcome.TooLong comes (whole same took noted) is = absurd (let no : ⊥ = omega (arith, same, is) in no)
 done_of words s output notes Quiet status (outcome.Deep line) comes (whole same took noted) is = absurd (let no : ⊥ = omega (arith, same, is) in no)
+done_of words s output notes Quiet status (outcome.Limit l) comes (whole same took noted) is = absurd (let no : ⊥ = omega (arith, same, is) in no)
+done_of words s output notes Quiet status (outcome.Alone line) comes (whole same took noted) is = absurd (let no : ⊥ = omega (arith, same, is) in no)
+done_of words s output notes Quiet status outcome.Together comes (whole same took noted) is = absurd (let no : ⊥ = omega (arith, same, is) in no)
 done_of words s output notes Quiet status outcome.ReadFault comes (whole same took noted) is = absurd (let no : ⊥ = omega (arith, same, is) in no)
 done_of words s output notes Quiet status outcome.Memory comes (whole same took noted) is = absurd (let no : ⊥ = omega (arith, same, is) in no)
 
@@ -65,6 +59,9 @@ due_of words s (outcome.SourceRefused line) comes other = refused comes
 due_of words s outcome.Usage comes other = usage comes
 due_of words s outcome.TooLong comes other = too_long comes
 due_of words s (outcome.Deep line) comes other = too_deep comes
+due_of words s (outcome.Limit l) comes other = past_limit comes
+due_of words s (outcome.Alone line) comes other = alone comes
+due_of words s outcome.Together comes other = together comes
 due_of words s outcome.ReadFault comes other = read_fault comes
 due_of words s outcome.Memory comes other = memory comes
 
@@ -110,6 +107,9 @@ printed_of words s output (outcome.SourceRefused line) comes broke = absurd (non
 printed_of words s output outcome.Usage comes broke = absurd (none_broke output broke)
 printed_of words s output outcome.TooLong comes broke = absurd (none_broke output broke)
 printed_of words s output (outcome.Deep line) comes broke = absurd (none_broke output broke)
+printed_of words s output (outcome.Limit l) comes broke = absurd (none_broke output broke)
+printed_of words s output (outcome.Alone line) comes broke = absurd (none_broke output broke)
+printed_of words s output outcome.Together comes broke = absurd (none_broke output broke)
 printed_of words s output outcome.ReadFault comes broke = absurd (none_broke output broke)
 printed_of words s output outcome.Memory comes broke = absurd (none_broke output broke)
 
@@ -134,6 +134,9 @@ line_of words s output notes Untouched (outcome.SourceRefused line) comes untouc
 line_of words s output notes Untouched outcome.Usage comes untouched took broke = inl (record { piece = _; due = (2, usage comes); broke = broke }, untouched refl)
 line_of words s output notes Untouched outcome.TooLong comes untouched took broke = inl (record { piece = _; due = (4, too_long comes); broke = broke }, untouched refl)
 line_of words s output notes Untouched (outcome.Deep line) comes untouched took broke = inl (record { piece = _; due = (4, too_deep comes); broke = broke }, untouched refl)
+line_of words s output notes Untouched (outcome.Limit l) comes untouched took broke = inl (record { piece = _; due = (4, past_limit comes); broke = broke }, untouched refl)
+line_of words s output notes Untouched (outcome.Alone line) comes untouched took broke = inl (record { piece = _; due = (3, alone comes); broke = broke }, untouched refl)
+line_of words s output notes Untouched outcome.Together comes untouched took broke = inl (record { piece = _; due = (3, together comes); broke = broke }, untouched refl)
 line_of words s output notes Untouched outcome.ReadFault comes untouched took broke = inl (record { piece = _; due = (5, read_fault comes); broke = broke }, untouched refl)
 line_of words s output notes Untouched outcome.Memory comes untouched took broke = inl (record { piece = _; due = (7, memory comes); broke = broke }, untouched refl)
 
@@ -144,6 +147,9 @@ status_not_six (outcome.SourceRefused line) is = omega (arith, is)
 status_not_six outcome.Usage is = omega (arith, is)
 status_not_six outcome.TooLong is = omega (arith, is)
 status_not_six (outcome.Deep line) is = omega (arith, is)
+status_not_six (outcome.Limit l) is = omega (arith, is)
+status_not_six (outcome.Alone line) is = omega (arith, is)
+status_not_six outcome.Together is = omega (arith, is)
 status_not_six outcome.ReadFault is = omega (arith, is)
 status_not_six outcome.Memory is = omega (arith, is)
 
@@ -155,87 +161,6 @@ fault_of words s output notes Untouched Quiet status o comes (output_cut six bro
 fault_of words s output notes Untouched Quiet status o comes (notes_cut six took broke) untouched is = inr (line_of words s output notes Untouched o comes untouched took broke)
 
 -- Exactness.
-
--- what is accepted is not refused, but for want of memory
-accepted_not_refused : (asked : Request) (b : List ℕ) (ts : Tokens) (r : SourceRefusal) → AreTokens b ts → Accepts asked ts → Refuses asked b r → (r ≡ source.Memory → ⊥) → ⊥
-accepted_not_refused request.Repair b ts r are accepts refuses other =
-    let reads : ReadsFirst b accepts.0 = record { tokens = ts.list; scanned = record { last_comment = ts.last_comment; reads = are.reads }; first = accepts.1 } in
-    refused_not_read b r accepts.0 refuses other reads
-accepted_not_refused (request.Replay q) b ts r are accepts refuses other = refused_source b r refuses other accepts.0 (record { tokens = ts; are = are; program = accepts.1 })
-
--- what has status 1 is no want of memory
-caused_by : (r : SourceRefusal) → status_of_source r ≡ 1 → r ≡ source.Memory → ⊥
-caused_by r one is = let seven : status_of_source r ≡ 7 = ap status_of_source is in let no : ⊥ = omega (arith, one, seven) in no
-
--- what is refused with status 1 is not too deep
-refused_not_deep : (asked : Request) (b : List ℕ) (r : SourceRefusal) (at : ℕ) → Refuses asked b r → status_of_source r ≡ 1 → Answers b (Err (Depth at)) → ⊥
-refused_not_deep request.Repair b (source.Lex r) at h one k = lex_not_deep b r at h one k
-refused_not_deep request.Repair b (source.Parse r) at h one k = tokens_not_lexical b h.tokens (Depth at) h.are k
-refused_not_deep request.Repair b (source.Resolve r) at h one k = tokens_not_lexical b h.tokens (Depth at) h.are k
-refused_not_deep request.Repair b (source.NotBuilt n) at h one k = tokens_not_lexical b h.tokens (Depth at) h.are k
-refused_not_deep request.Repair b source.Memory at h one k = let no : ⊥ = omega (arith, one) in no
-refused_not_deep (request.Replay q) b (source.Lex r) at h one k = lex_not_deep b r at h one k
-refused_not_deep (request.Replay q) b (source.Parse r) at h one k = tokens_not_lexical b h.tokens (Depth at) h.are k
-refused_not_deep (request.Replay q) b (source.Resolve r) at h one k = tokens_not_lexical b h.tokens (Depth at) h.are k
-refused_not_deep (request.Replay q) b (source.NotBuilt n) at h one k = h
-refused_not_deep (request.Replay q) b source.Memory at h one k = let no : ⊥ = omega (arith, one) in no
-
--- the statuses of a text, by what it comes to
-
-status_done : (asked : Request) (b : List ℕ) (ts : Tokens) (status : ℕ) → length b ≤ source_limit → AreTokens b ts → Accepts asked ts → status ≡ 0 → IsStatusOf asked b status
-status_done asked b ts status fits are accepts is = record {
-  too_long = λ long. let no : ⊥ = omega (arith, fits, long) in absurd no;
-  lexical = λ short r h one. absurd (tokens_not_lexical b ts r are h);
-  deep = λ short at h. absurd (tokens_not_lexical b ts (Depth at) are h);
-  accepted = λ short us h k. inl is;
-  other = λ short us h none. absurd (none (subst (Accepts asked) (same_tokens b ts us are h) accepts));
-}
-
-status_refused : (asked : Request) (b : List ℕ) (r : SourceRefusal) (status : ℕ) → length b ≤ source_limit → Refuses asked b r → status_of_source r ≡ 1 → status ≡ 1 → IsStatusOf asked b status
-status_refused asked b r status fits refuses one is = record {
-  too_long = λ long. let no : ⊥ = omega (arith, fits, long) in absurd no;
-  lexical = λ short q h k. inl is;
-  deep = λ short at h. absurd (refused_not_deep asked b r at refuses one h);
-  accepted = λ short us h k. absurd (accepted_not_refused asked b us r h k refuses (caused_by r one));
-  other = λ short us h none. inl is;
-}
-
-status_deep : (asked : Request) (b : List ℕ) (at status : ℕ) → length b ≤ source_limit → Answers b (Err (Depth at)) → status ≡ 4 → IsStatusOf asked b status
-status_deep asked b at status fits deep is = record {
-  too_long = λ long. let no : ⊥ = omega (arith, fits, long) in absurd no;
-  lexical = λ short r h one. absurd (deep_not_lexical b at r deep h one);
-  deep = λ short n h. inl is;
-  accepted = λ short us h k. absurd (tokens_not_lexical b us (Depth at) h deep);
-  other = λ short us h none. absurd (tokens_not_lexical b us (Depth at) h deep);
-}
-
-status_too_long : (asked : Request) (b : List ℕ) (status : ℕ) → source_limit < length b → status ≡ 4 → IsStatusOf asked b status
-status_too_long asked b status long is = record {
-  too_long = λ same. inl is;
-  lexical = λ short r h one. let no : ⊥ = omega (arith, long, short) in absurd no;
-  deep = λ short at h. let no : ⊥ = omega (arith, long, short) in absurd no;
-  accepted = λ short us h k. let no : ⊥ = omega (arith, long, short) in absurd no;
-  other = λ short us h none. let no : ⊥ = omega (arith, long, short) in absurd no;
-}
-
-status_memory : (asked : Request) (b : List ℕ) (status : ℕ) → status ≡ 7 → IsStatusOf asked b status
-status_memory asked b status is = record {
-  too_long = λ long. inr is;
-  lexical = λ short r h one. inr is;
-  deep = λ short at h. inr is;
-  accepted = λ short us h k. inr is;
-  other = λ short us h none. inr is;
-}
-
-status_repaired : (asked : Request) (b w : List ℕ) (status : ℕ) → length b ≤ source_limit → (asked ≡ request.Repair) × Repairs b w → status ≡ 0 → IsStatusOf asked b status
-status_repaired asked b w status fits h is =
-    let l = reads_lexed b h.1.program h.1.built in
-    subst (λ q. IsStatusOf q b status) (sym h.0) (status_done request.Repair b l.tokens status fits l.are (h.1.program, l.first) is)
-
-status_replayed : (asked : Request) (b text line : List ℕ) (status : ℕ) → length b ≤ source_limit → ((r : Replay) × (asked ≡ request.Replay r) × IsReplay r b text line) → status ≡ 0 → IsStatusOf asked b status
-status_replayed asked b text line status fits h is =
-    let k = h.2.replays in
-    subst (λ q. IsStatusOf q b status) (sym h.1) (status_done (request.Replay h.0) b k.reads.tokens status fits k.reads.are (k.program, k.reads.program) is)
 
 -- what holds of the text that was read holds of the bytes that were left
 of_text : (words : Option Request) (s : Stream) (Cause : Request → List ℕ → Type 0) (asked : Request) (bytes : List ℕ) (status : ℕ)
@@ -258,6 +183,12 @@ status_is words s asked bytes status outcome.Usage comes is ask told none = let 
 status_is words s asked bytes status outcome.TooLong comes is ask told none = status_too_long asked bytes status (subst (MoreLeft source_limit) told comes.more) is
 status_is words s asked bytes status (outcome.Deep line) comes is ask told none =
     of_text words s _ asked bytes status comes ask told (λ q b fits h. status_deep q b h.at status fits h.deep is)
+status_is words s asked bytes status (outcome.Limit l) comes is ask told none =
+    of_text words s _ asked bytes status comes ask told (λ q b fits h. status_past q b (limit_line l) status h is)
+status_is words s asked bytes status (outcome.Alone line) comes is ask told none =
+    of_text words s _ asked bytes status comes ask told (λ q b fits h. status_stuck q b line.items status h is)
+status_is words s asked bytes status outcome.Together comes is ask told none =
+    of_text words s _ asked bytes status comes ask told (λ q b fits h. status_tangled q b together_line status h is)
 status_is words s asked bytes status outcome.ReadFault comes is ask told none = absurd (none comes.failed)
 status_is words s asked bytes status outcome.Memory comes is ask told none = status_memory asked bytes status is
 
@@ -296,16 +227,19 @@ status_among (outcome.Repaired text) = inl refl
 status_among (outcome.Replayed text line) = inl refl
 status_among (outcome.SourceRefused line) = inr (inl refl)
 status_among outcome.Usage = inr (inr (inl refl))
-status_among outcome.TooLong = inr (inr (inr (inl refl)))
-status_among (outcome.Deep line) = inr (inr (inr (inl refl)))
-status_among outcome.ReadFault = inr (inr (inr (inr (inl refl))))
-status_among outcome.Memory = inr (inr (inr (inr (inr (inr refl)))))
+status_among outcome.TooLong = inr (inr (inr (inr (inl refl))))
+status_among (outcome.Deep line) = inr (inr (inr (inr (inl refl))))
+status_among (outcome.Limit l) = inr (inr (inr (inr (inl refl))))
+status_among (outcome.Alone line) = inr (inr (inr (inl refl)))
+status_among outcome.Together = inr (inr (inr (inl refl)))
+status_among outcome.ReadFault = inr (inr (inr (inr (inr (inl refl)))))
+status_among outcome.Memory = inr (inr (inr (inr (inr (inr (inr refl))))))
 
 pub statuses_of : (output notes : Stream) (Quiet : Type 0) (status : ℕ) (o : Outcome)
     → Wrote output notes Quiet (output_of o) (notes_of o) (status_of o) status → IsStatus status
 statuses_of output notes Quiet status o (whole same took noted) = subst IsStatus (sym same) (status_among o)
-statuses_of output notes Quiet status o (output_cut six broke quiet) = inr (inr (inr (inr (inr (inl six)))))
-statuses_of output notes Quiet status o (notes_cut six took broke) = inr (inr (inr (inr (inr (inl six)))))
+statuses_of output notes Quiet status o (output_cut six broke quiet) = inr (inr (inr (inr (inr (inr (inl six))))))
+statuses_of output notes Quiet status o (notes_cut six took broke) = inr (inr (inr (inr (inr (inr (inl six))))))
 
 -- words that ask for nothing come to the usage line, or to want of memory
 pub other_words_of : (output notes : Stream) (Quiet : Type 0) (status : ℕ) (o : Outcome)
@@ -326,6 +260,9 @@ quiet_outcome words s (outcome.SourceRefused line) comes ask is = absurd (let no
 quiet_outcome words s outcome.Usage comes ask is = absurd (let no : ⊥ = omega (arith, is) in no)
 quiet_outcome words s outcome.TooLong comes ask is = absurd (let no : ⊥ = omega (arith, is) in no)
 quiet_outcome words s (outcome.Deep line) comes ask is = absurd (let no : ⊥ = omega (arith, is) in no)
+quiet_outcome words s (outcome.Limit l) comes ask is = absurd (let no : ⊥ = omega (arith, is) in no)
+quiet_outcome words s (outcome.Alone line) comes ask is = absurd (let no : ⊥ = omega (arith, is) in no)
+quiet_outcome words s outcome.Together comes ask is = absurd (let no : ⊥ = omega (arith, is) in no)
 quiet_outcome words s outcome.ReadFault comes ask is = absurd (let no : ⊥ = omega (arith, is) in no)
 quiet_outcome words s outcome.Memory comes ask is = absurd (let no : ⊥ = omega (arith, is) in no)
 
@@ -344,6 +281,9 @@ silent_outcome (outcome.SourceRefused line) other = refl
 silent_outcome outcome.Usage other = refl
 silent_outcome outcome.TooLong other = refl
 silent_outcome (outcome.Deep line) other = refl
+silent_outcome (outcome.Limit l) other = refl
+silent_outcome (outcome.Alone line) other = refl
+silent_outcome outcome.Together other = refl
 silent_outcome outcome.ReadFault other = refl
 silent_outcome outcome.Memory other = refl
 

@@ -18,6 +18,7 @@ pub mod LimitsAgree
 pub mod NamedPuts
 mod NotesExamples
 pub mod NotesLemmas
+pub mod OneProgram
 pub mod OwnChoice
 pub mod OwnFrees
 pub mod OwnText
@@ -27,4 +28,5 @@ pub mod Repaired
 pub mod RequestLemmas
 pub mod RowVariables
 pub mod ScopeLists
+pub mod StatusLemmas
 pub mod Unchanged

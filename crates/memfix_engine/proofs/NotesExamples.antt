@@ -3,7 +3,8 @@ use Rattle.std.proofs.Common.{◌≡◌, ℕ, List, [], ◌∷◌, ◌++◌, len
 use Rattle.std.specs.Prelude.{codes}
 use Rattle.std.proofs.lemmas.Fmt.{decimal_digit}
 use Rattle.c_lexer.specs.declared.refusal.LexRefusal.TheVariants.{Construct}
-use Rattle.memfix_engine.specs.Notes.{line_number, column_number, row_texts, row_text, lex_line}
+use Rattle.c_tree.specs.declared.limits.Limit.TheVariants.{Contexts}
+use Rattle.memfix_engine.specs.Notes.{line_number, column_number, row_texts, row_text, lex_line, limit_line, alone_line}
 
 -- a text of four lines: a, bc, an empty one, and d
 abbrev text : List ℕ
@@ -58,3 +59,9 @@ last_row = refl
 
 a_line : lex_line text (Construct 51 3) ≡ codes "memfix: line 2, column 2: not in the profile: right shift" ++ 10 ∷ []
 a_line = rw (decimal_digit 2 (lit< tt)) refl
+
+the_line_of_a_limit : limit_line Contexts ≡ codes "memfix: limit: more than 1024 contexts" ++ 10 ∷ []
+the_line_of_a_limit = refl
+
+a_line_of_two_places : alone_line text 3 6 ≡ codes "memfix: line 2, column 2: no free fits this object on the way to the exit at line 4" ++ 10 ∷ []
+a_line_of_two_places = rw (decimal_digit 2 (lit< tt), decimal_digit 4 (lit< tt)) refl

@@ -5,14 +5,18 @@ use Rattle.c_lexer.specs.declared.refusal.LexRefusal.TheVariants.{Depth}
 use Rattle.c_lexer.specs.declared.token.Tokens.{Tokens}
 use Rattle.c_lexer.specs.Outcome.{AreTokens, Answers}
 use Rattle.c_meaning.specs.declared.machine.Machine.{Machine}
+use Rattle.c_tree.specs.declared.choice.Choice.{Choice}
+use Rattle.c_tree.specs.declared.limits.Limit.{Limit}
 use Rattle.c_tree.specs.declared.program.Program.{Program}
+use Rattle.cover_problem.specs.Problem.{IsCoverOf}
+use Rattle.cover_problem.specs.declared.types.Problem.{Problem}
+use Rattle.memfix_engine.specs.Analysis.{IsAnalysed, PassesLimit}
 use Rattle.memfix_engine.specs.declared.request.Replay.{Replay}
 use Rattle.memfix_engine.specs.declared.request.Request.{Request}
 use Rattle.memfix_engine.specs.declared.request.Request.TheVariants as request
-use Rattle.memfix_engine.specs.First.Reads.{IsFirst}
 use Rattle.memfix_engine.specs.Notes.{replay_line}
-use Rattle.memfix_engine.specs.Outcome.{IsRead, OfText, IsRefused, IsDeep, IsUsage, IsTooLong, IsReadFault, IsMemory, status_of_lex}
-use Rattle.source_patcher.specs.Reads.{HasProgram}
+use Rattle.memfix_engine.specs.Outcome.{IsRead, OfText, IsRefused, IsDeep, IsPast, IsStuck, IsTangled, IsUsage, IsTooLong, IsReadFault, IsMemory, status_of_lex}
+use Rattle.source_patcher.specs.Reads.{HasProgram, ReadsWithin}
 use Rattle.memfix_engine.specs.Refusal.{source_limit}
 use Rattle.memfix_engine.specs.Repair.{Repairs}
 use Rattle.memfix_engine.specs.Replay.{Replays}
@@ -47,10 +51,13 @@ Done (Some (request.Replay r)) source output notes = Replayed r source output no
 
 -- the cause of a status, and its line
 pub data Due (words : Option Request) (source : Stream) : ℕ → List ℕ → Type 0 where
-  refused : {line : List ℕ} → OfText words source (λ asked bytes. IsRefused asked bytes line) → Due words source 1 line
+  refused : {line : List ℕ} → OfText words source (λ asked bytes. IsRefused bytes line) → Due words source 1 line
   usage : {line : List ℕ} → IsUsage words line → Due words source 2 line
+  alone : {line : List ℕ} → OfText words source (λ asked bytes. IsStuck asked bytes line) → Due words source 3 line
+  together : {line : List ℕ} → OfText words source (λ asked bytes. IsTangled asked bytes line) → Due words source 3 line
   too_long : {line : List ℕ} → IsTooLong words source line → Due words source 4 line
   too_deep : {line : List ℕ} → OfText words source (λ asked bytes. IsDeep bytes line) → Due words source 4 line
+  past_limit : {line : List ℕ} → OfText words source (λ asked bytes. IsPast asked bytes line) → Due words source 4 line
   read_fault : {line : List ℕ} → IsReadFault words source line → Due words source 5 line
   memory : {line : List ℕ} → IsMemory line → Due words source 7 line
 
@@ -60,9 +67,9 @@ pub record Noted (notes : Stream) (Cause : List ℕ → Type 0) : Type 0 where
   pub cause : Cause line
   pub took : Took notes line
 
--- the statuses: done, source refused, usage, limit, read fault, write fault, want of memory
+-- the statuses: done, source refused, usage, uncovered, limit, read fault, write fault, want of memory
 abbrev pub IsStatus : ℕ → Type 0
-IsStatus n = (n ≡ 0) ⊎ ((n ≡ 1) ⊎ ((n ≡ 2) ⊎ ((n ≡ 4) ⊎ ((n ≡ 5) ⊎ ((n ≡ 6) ⊎ (n ≡ 7))))))
+IsStatus n = (n ≡ 0) ⊎ ((n ≡ 1) ⊎ ((n ≡ 2) ⊎ ((n ≡ 3) ⊎ ((n ≡ 4) ⊎ ((n ≡ 5) ⊎ ((n ≡ 6) ⊎ (n ≡ 7)))))))
 
 -- Status 6.
 
@@ -100,18 +107,29 @@ WriteFault words source output notes Untouched Quiet =
 
 -- Exactness.
 
--- tokens that are accepted, by what is asked for
-abbrev pub Accepts : Request → Tokens → Type 0
-Accepts request.Repair tokens = (p : Program) × IsFirst tokens.list p
-Accepts (request.Replay r) tokens = (p : Program) × HasProgram tokens p
+-- the status is this, or that of want of memory
+abbrev pub IsOrMemory : (due status : ℕ) → Type 0
+IsOrMemory due status = (status ≡ due) ⊎ (status ≡ 7)
+
+-- the status of a repair of this program: 4 where a count passes its limit; where no count does, 0 where some choice is a cover,
+-- and 3 where none is
+pub record IsRepairStatus (p : Program) (status : ℕ) : Type 0 where
+  pub past_limit : (l : Limit) → PassesLimit p l → IsOrMemory 4 status
+  pub covered : (q : Problem) → IsAnalysed p q → (s : Choice) → IsCoverOf q s → IsOrMemory 0 status
+  pub uncovered : (q : Problem) → IsAnalysed p q → ((s : Choice) → IsCoverOf q s → ⊥) → IsOrMemory 3 status
+
+-- the status of what is asked of this program; a replay is done
+abbrev pub IsProgramStatus : Request → Program → ℕ → Type 0
+IsProgramStatus request.Repair p status = IsRepairStatus p status
+IsProgramStatus (request.Replay r) p status = IsOrMemory 0 status
 
 -- the status for these bytes where nothing fails; want of memory may come in its place
 pub record IsStatusOf (asked : Request) (bytes : List ℕ) (status : ℕ) : Type 0 where
-  pub too_long : source_limit < length bytes → (status ≡ 4) ⊎ (status ≡ 7)
-  pub lexical : length bytes ≤ source_limit → (refusal : LexRefusal) → Answers bytes (Err refusal) → status_of_lex refusal ≡ 1 → (status ≡ 1) ⊎ (status ≡ 7)
-  pub deep : length bytes ≤ source_limit → (at : ℕ) → Answers bytes (Err (Depth at)) → (status ≡ 4) ⊎ (status ≡ 7)
-  pub accepted : length bytes ≤ source_limit → (tokens : Tokens) → AreTokens bytes tokens → Accepts asked tokens → (status ≡ 0) ⊎ (status ≡ 7)
-  pub other : length bytes ≤ source_limit → (tokens : Tokens) → AreTokens bytes tokens → (Accepts asked tokens → ⊥) → (status ≡ 1) ⊎ (status ≡ 7)
+  pub too_long : source_limit < length bytes → IsOrMemory 4 status
+  pub lexical : length bytes ≤ source_limit → (refusal : LexRefusal) → Answers bytes (Err refusal) → status_of_lex refusal ≡ 1 → IsOrMemory 1 status
+  pub deep : length bytes ≤ source_limit → (at : ℕ) → Answers bytes (Err (Depth at)) → IsOrMemory 4 status
+  pub no_program : length bytes ≤ source_limit → (tokens : Tokens) → AreTokens bytes tokens → ((p : Program) → HasProgram tokens p → ⊥) → IsOrMemory 1 status
+  pub program : length bytes ≤ source_limit → (p : Program) → ReadsWithin bytes p → IsProgramStatus asked p status
 
 -- What writing leaves.
 

@@ -11,6 +11,8 @@ use Rattle.c_meaning.specs.declared.machine.Ending.TheVariants as ending
 use Rattle.c_meaning.specs.declared.machine.Machine.{Machine}
 use Rattle.c_parser.specs.declared.refusal.ParseRefusal.{ParseRefusal}
 use Rattle.c_parser.specs.declared.refusal.ParseRefusal.TheVariants as parse
+use Rattle.c_tree.specs.declared.limits.Limit.{Limit}
+use Rattle.c_tree.specs.declared.limits.Limit.TheVariants as limit
 use Rattle.c_types.specs.declared.refusal.TypeRefusal.{TypeRefusal}
 use Rattle.c_types.specs.declared.refusal.TypeRefusal.TheVariants as typing
 use Rattle.memfix_engine.specs.declared.refusal.SourceRefusal.{SourceRefusal}
@@ -118,8 +120,31 @@ abbrev pub source_line : List ℕ → SourceRefusal → List ℕ
 source_line bytes (source.Lex refusal) = lex_line bytes refusal
 source_line bytes (source.Parse refusal) = parse_line bytes refusal
 source_line bytes (source.Resolve refusal) = type_line bytes refusal
-source_line bytes (source.NotBuilt at) = line_at bytes at (codes "not built yet")
 source_line bytes source.Memory = memory_line
+
+-- The lines of programs that are not repaired.
+
+-- the line of a count that passes its limit
+abbrev pub limit_line : Limit → List ℕ
+limit_line limit.Contexts = line_of (codes "limit: more than 1024 contexts")
+limit_line limit.Nodes = line_of (codes "limit: more than 10000 nodes")
+limit_line limit.Variables = line_of (codes "limit: more than 256 variables")
+limit_line limit.Expressions = line_of (codes "limit: more than 1024 expressions")
+limit_line limit.Sites = line_of (codes "limit: more than 1024 sites")
+limit_line limit.Frees = line_of (codes "limit: more than 8192 frees")
+limit_line limit.States = line_of (codes "limit: more than 100000 states")
+limit_line limit.Clauses = line_of (codes "limit: more than 2000000 clauses")
+
+-- the text of an object that no put may free on the way to the exit at a line
+abbrev pub alone_text : ℕ → List ℕ
+alone_text line = codes "no free fits this object on the way to the exit at line " ++ decimal line
+
+-- its line, from the offsets of the word `malloc` and of the exit
+abbrev pub alone_line : (bytes : List ℕ) (site exit : ℕ) → List ℕ
+alone_line bytes site exit = line_at bytes site (alone_text (line_number bytes exit))
+
+abbrev pub together_line : List ℕ
+together_line = line_of (codes "no choice of frees covers every object exactly once")
 
 -- The line of a replay.
 

@@ -1,9 +1,10 @@
 -- What a call of the command comes to, before anything is written.
-use Rattle.std.specs.Prelude.{◌≡◌, ◌+◌, ◌<◌, ◌≤◌, ◌⊎◌, ℕ, Bool, true, false, Option, None, Some, List, [], length, Err}
+use Rattle.std.specs.Prelude.{◌≡◌, ◌+◌, ◌<◌, ◌≤◌, ℕ, Bool, true, false, Option, None, Some, List, [], length, Err}
 use Rattle.c_lexer.specs.declared.refusal.LexRefusal.{LexRefusal}
 use Rattle.c_lexer.specs.declared.refusal.LexRefusal.TheVariants as lex
 use Rattle.c_lexer.specs.Outcome.{Answers}
 use Rattle.c_meaning.specs.declared.machine.Machine.{Machine}
+use Rattle.c_tree.specs.declared.limits.Limit.{Limit}
 use Rattle.mf_io.specs.declared.whole.ReadRefusal.{ReadRefusal}
 use Rattle.mf_io.specs.declared.whole.ReadRefusal.TheVariants as refusal
 use Rattle.mf_io.specs.Bytes.{Gives, Ended, WasLeft, MoreLeft}
@@ -14,10 +15,10 @@ use Rattle.memfix_engine.specs.declared.refusal.SourceRefusal.TheVariants as sou
 use Rattle.memfix_engine.specs.declared.request.Replay.{Replay}
 use Rattle.memfix_engine.specs.declared.request.Request.{Request}
 use Rattle.memfix_engine.specs.declared.request.Request.TheVariants as request
-use Rattle.memfix_engine.specs.First.Others.{RefusesText}
-use Rattle.memfix_engine.specs.Notes.{line_at, depth_text, source_line, replay_line, usage_line, too_long_line, read_fault_line, memory_line}
+use Rattle.memfix_engine.specs.Analysis.{IsAlone, IsUncovered, PassesLimit}
+use Rattle.memfix_engine.specs.Notes.{line_at, depth_text, source_line, limit_line, alone_line, together_line, replay_line, usage_line, too_long_line, read_fault_line, memory_line}
 use Rattle.memfix_engine.specs.Refusal.{RefusesSource, source_limit}
-use Rattle.memfix_engine.specs.Repair.{Repairs}
+use Rattle.memfix_engine.specs.Repair.{OfProgram, Repairs}
 use Rattle.memfix_engine.specs.Replay.{Replays}
 use Rattle.memfix_engine.specs.Stream.{Stream, Failed}
 
@@ -30,11 +31,6 @@ pub record IsReplay (r : Replay) (bytes printed line : List ℕ) : Type 0 where
   pub output : printed ≡ machine.output
   pub text : line ≡ replay_line bytes machine
 
--- the text is refused so, by what is asked for
-abbrev pub Refuses : Request → List ℕ → SourceRefusal → Type 0
-Refuses request.Repair bytes r = RefusesText bytes r
-Refuses (request.Replay replay) bytes r = RefusesSource bytes r
-
 abbrev pub status_of_lex : LexRefusal → ℕ
 status_of_lex (lex.Depth at) = 4
 status_of_lex lex.Memory = 7
@@ -45,13 +41,12 @@ abbrev pub status_of_source : SourceRefusal → ℕ
 status_of_source (source.Lex refusal) = status_of_lex refusal
 status_of_source (source.Parse refusal) = 1
 status_of_source (source.Resolve refusal) = 1
-status_of_source (source.NotBuilt at) = 1
 status_of_source source.Memory = 7
 
--- the text is refused as a source, or is not built from some place on, and this is its line
-pub record IsRefused (asked : Request) (bytes line : List ℕ) : Type 0 where
+-- the text is refused as a source, and this is its line
+pub record IsRefused (bytes line : List ℕ) : Type 0 where
   pub refusal : SourceRefusal
-  pub refuses : Refuses asked bytes refusal
+  pub refuses : RefusesSource bytes refusal
   pub status : status_of_source refusal ≡ 1
   pub text : line ≡ source_line bytes refusal
 
@@ -61,14 +56,38 @@ pub record IsDeep (bytes line : List ℕ) : Type 0 where
   pub deep : Answers bytes (Err (lex.Depth at))
   pub text : line ≡ line_at bytes at depth_text
 
+-- a repair is asked for, a count of the text's program passes its limit, and this is its line
+pub record IsPast (asked : Request) (bytes line : List ℕ) : Type 0 where
+  pub asks : asked ≡ request.Repair
+  pub limit : Limit
+  pub passes : OfProgram bytes (λ p. PassesLimit p limit)
+  pub text : line ≡ limit_line limit
+
+-- a repair is asked for, no put may free an object of the text's program on the way to some exit, and this is its line
+pub record IsStuck (asked : Request) (bytes line : List ℕ) : Type 0 where
+  pub asks : asked ≡ request.Repair
+  pub site : ℕ
+  pub exit : ℕ
+  pub alone : OfProgram bytes (λ p. IsAlone p site exit)
+  pub text : line ≡ alone_line bytes site exit
+
+-- a repair is asked for, no choice of puts covers the text's program, and this is its line
+pub record IsTangled (asked : Request) (bytes line : List ℕ) : Type 0 where
+  pub asks : asked ≡ request.Repair
+  pub uncovered : OfProgram bytes IsUncovered
+  pub text : line ≡ together_line
+
 -- what is asked for does this with a text that was read to its end
 abbrev pub ComesOf : Request → List ℕ → Outcome → Type 0
 ComesOf asked bytes (outcome.Repaired text) = (asked ≡ request.Repair) × Repairs bytes text.items
 ComesOf asked bytes (outcome.Replayed printed line) = (r : Replay) × (asked ≡ request.Replay r) × IsReplay r bytes printed line.items
-ComesOf asked bytes (outcome.SourceRefused line) = IsRefused asked bytes line.items
+ComesOf asked bytes (outcome.SourceRefused line) = IsRefused bytes line.items
 ComesOf asked bytes outcome.Usage = ⊥
 ComesOf asked bytes outcome.TooLong = source_limit < length bytes
 ComesOf asked bytes (outcome.Deep line) = IsDeep bytes line.items
+ComesOf asked bytes (outcome.Limit l) = IsPast asked bytes (limit_line l)
+ComesOf asked bytes (outcome.Alone line) = IsStuck asked bytes line.items
+ComesOf asked bytes outcome.Together = IsTangled asked bytes together_line
 ComesOf asked bytes outcome.ReadFault = ⊥
 ComesOf asked bytes outcome.Memory = Unit {0}
 
@@ -138,6 +157,9 @@ ComesTo words s (outcome.SourceRefused line) = OfText words s (λ asked bytes. C
 ComesTo words s outcome.Usage = IsUsage words usage_line
 ComesTo words s outcome.TooLong = IsTooLong words s too_long_line
 ComesTo words s (outcome.Deep line) = OfText words s (λ asked bytes. ComesOf asked bytes (outcome.Deep line))
+ComesTo words s (outcome.Limit l) = OfText words s (λ asked bytes. ComesOf asked bytes (outcome.Limit l))
+ComesTo words s (outcome.Alone line) = OfText words s (λ asked bytes. ComesOf asked bytes (outcome.Alone line))
+ComesTo words s outcome.Together = OfText words s (λ asked bytes. ComesOf asked bytes outcome.Together)
 ComesTo words s outcome.ReadFault = IsReadFault words s read_fault_line
 ComesTo words s outcome.Memory = IsMemory memory_line
 
@@ -150,6 +172,9 @@ status_of (outcome.SourceRefused line) = 1
 status_of outcome.Usage = 2
 status_of outcome.TooLong = 4
 status_of (outcome.Deep line) = 4
+status_of (outcome.Limit l) = 4
+status_of (outcome.Alone line) = 3
+status_of outcome.Together = 3
 status_of outcome.ReadFault = 5
 status_of outcome.Memory = 7
 
@@ -167,6 +192,9 @@ notes_of (outcome.SourceRefused line) = line.items
 notes_of outcome.Usage = usage_line
 notes_of outcome.TooLong = too_long_line
 notes_of (outcome.Deep line) = line.items
+notes_of (outcome.Limit l) = limit_line l
+notes_of (outcome.Alone line) = line.items
+notes_of outcome.Together = together_line
 notes_of outcome.ReadFault = read_fault_line
 notes_of outcome.Memory = memory_line
 

@@ -94,7 +94,7 @@ pub fn memfix<S: Source, K: Sink, N: Sink>(
     // Of a source that tells its bytes, no more than 4,096 past the limit are read, whatever comes of it.
     ensures within { IsWithin (S.left source.old) (S.left source.new) }
 
-    // Where no call fails, the bytes that are left determine the status.
+    // Where no call fails, the bytes that are left determine the status, but for want of memory.
     ensures exact { (asked : Request) → request_of words.now ≡ Some asked
         → ¬ Rose (S.faults source.old) (S.faults source.new)
         → ¬ Rose (K.faults output.old) (K.faults output.new)

@@ -2,7 +2,7 @@
 ghost use Rattle.std.specs.Prelude.{◌≡◌, ◌++◌, Bool, codes, length, take_while, reverse, not, IfOk, string_bytes};
 ghost use Rattle.std.specs.Fmt.{signed_decimal};
 ghost use Rattle.c_meaning.specs.declared.machine.Ending.TheVariants.{Fault};
-ghost use Rattle.memfix_engine.specs.Notes.{is_newline, line_number, column_number, place_text, place_line, line_at, construct_text, lex_line, parse_line, rule_text, type_line, source_line, usage_line, too_long_line, read_fault_line, memory_line, at_text, ending_text, steps_text, live_text, replay_line};
+ghost use Rattle.memfix_engine.specs.Notes.{is_newline, line_number, column_number, place_text, place_line, line_at, construct_text, lex_line, parse_line, rule_text, type_line, source_line, usage_line, too_long_line, read_fault_line, memory_line, limit_line, alone_text, alone_line, together_line, at_text, ending_text, steps_text, live_text, replay_line};
 
 use crate::constructs::row_text;
 use crate::refusal::SourceRefusal;
@@ -10,6 +10,7 @@ use c_lexer::LexRefusal;
 use c_meaning::{Ending, Kind, Machine, kind_text};
 use c_parser::ParseRefusal;
 use c_replay::live;
+use c_tree::Limit;
 use c_types::TypeRefusal;
 use std::alloc::{AllocError, Global};
 
@@ -137,7 +138,6 @@ pub(crate) fn source_line(
         SourceRefusal::Lex(refusal) => lex_line(alloc, bytes, refusal),
         SourceRefusal::Parse(refusal) => parse_line(alloc, bytes, refusal),
         SourceRefusal::Resolve(refusal) => type_line(alloc, bytes, refusal),
-        SourceRefusal::NotBuilt(at) => line_at(alloc, bytes, at, b"not built yet"),
         SourceRefusal::Memory => Vec::from_slice(alloc, memory_line()),
     }
 }
@@ -164,6 +164,48 @@ pub(crate) fn memory_line() -> &'static [u8]
     ensures { result.now ≡ memory_line }
 {
     b"memfix: out of memory\n"
+}
+
+/// The line of a count that passes its limit.
+pub(crate) fn limit_line(limit: Limit) -> &'static [u8]
+    ensures { result.now ≡ limit_line limit }
+{
+    match limit {
+        Limit::Contexts => b"memfix: limit: more than 1024 contexts\n",
+        Limit::Nodes => b"memfix: limit: more than 10000 nodes\n",
+        Limit::Variables => b"memfix: limit: more than 256 variables\n",
+        Limit::Expressions => b"memfix: limit: more than 1024 expressions\n",
+        Limit::Sites => b"memfix: limit: more than 1024 sites\n",
+        Limit::Frees => b"memfix: limit: more than 8192 frees\n",
+        Limit::States => b"memfix: limit: more than 100000 states\n",
+        Limit::Clauses => b"memfix: limit: more than 2000000 clauses\n",
+    }
+}
+
+fn alone_text(alloc: Global, line: usize) -> Result<String, AllocError>
+    ensures { IfOk result (λ text. string_bytes text ≡ alone_text line) }
+{
+    format!(in alloc; "no free fits this object on the way to the exit at line {line}")
+}
+
+/// The line of an object that no free fits, from the offsets of its word `malloc` and of the exit.
+pub(crate) fn alone_line(
+    alloc: Global,
+    bytes: &[u8],
+    site: usize,
+    exit: usize,
+) -> Result<Vec<u8>, AllocError>
+    ensures { IfOk result (λ line. line.items ≡ alone_line bytes.now site exit) }
+{
+    let (line, _) = line_and_column(bytes, exit);
+    let text = alone_text(alloc, line)?;
+    line_at(alloc, bytes, site, text.as_bytes())
+}
+
+pub(crate) fn together_line() -> &'static [u8]
+    ensures { result.now ≡ together_line }
+{
+    b"memfix: no choice of frees covers every object exactly once\n"
 }
 
 fn at_text(alloc: Global, line: usize, column: usize) -> Result<String, AllocError>

@@ -2,13 +2,17 @@
 ghost use Rattle.std.specs.Prelude.{◌≡◌, ◌≤◌, ◌⊎◌, Some, None};
 ghost use Rattle.memfix_engine.specs.declared.request.Request.{Request as Asked};
 ghost use Rattle.memfix_engine.specs.declared.request.Request.TheVariants.{Repair, Replay as Again};
+ghost use Rattle.memfix_engine.specs.Analysis.{IsAlone};
+ghost use Rattle.memfix_engine.specs.Repair.{OfProgram};
 ghost use Rattle.memfix_engine.specs.Replay.{Replays};
-ghost use Rattle.memfix_engine.specs.Outcome.{ComesTo, ComesOf, IsWithin, OfText, Refuses, outcome_of_refusal};
+ghost use Rattle.memfix_engine.specs.Outcome.{ComesTo, ComesOf, IsWithin, outcome_of_refusal};
+ghost use Rattle.memfix_engine.specs.Refusal.{RefusesSource};
 ghost use Rattle.memfix_engine.specs.Request.{request_of};
 ghost use Rattle.memfix_engine.specs.Stream.{stream};
 
 use crate::notes::{
-    memory_line, read_fault_line, replay_line, source_line, too_long_line, usage_line,
+    alone_line, limit_line, memory_line, read_fault_line, replay_line, source_line, together_line,
+    too_long_line, usage_line,
 };
 use crate::refusal::{RepairRefusal, ReplayRefusal, SourceRefusal};
 use crate::repairs::{SOURCE_LIMIT, repair};
@@ -16,6 +20,7 @@ use crate::replays::replay;
 use crate::request::{Replay, Request, request_of};
 use c_lexer::LexRefusal;
 use c_meaning::Machine;
+use c_tree::Limit;
 use mf_io::{ReadRefusal, Source, read_all};
 use mf_list::Seq;
 use std::alloc::Global;
@@ -27,12 +32,18 @@ pub(crate) enum Outcome {
     Repaired(Vec<u8>),
     /// What a run printed, and its line.
     Replayed(Seq<u8>, Vec<u8>),
-    /// The line of a text that is refused as a source, or that is not built yet.
+    /// The line of a text that is refused as a source.
     SourceRefused(Vec<u8>),
     Usage,
     TooLong,
     /// The line of a text whose nest is too deep.
     Deep(Vec<u8>),
+    /// A count of the text's program passes its limit.
+    Limit(Limit),
+    /// The line of an object that no free fits.
+    Alone(Vec<u8>),
+    /// No choice of frees covers every object.
+    Together,
     ReadFault,
     Memory,
 }
@@ -48,7 +59,8 @@ impl Outcome {
             Outcome::Repaired(_) | Outcome::Replayed(_, _) => 0,
             Outcome::SourceRefused(_) => 1,
             Outcome::Usage => 2,
-            Outcome::TooLong | Outcome::Deep(_) => 4,
+            Outcome::Alone(_) | Outcome::Together => 3,
+            Outcome::TooLong | Outcome::Deep(_) | Outcome::Limit(_) => 4,
             Outcome::ReadFault => 5,
             Outcome::Memory => 7,
         }
@@ -60,11 +72,14 @@ impl Outcome {
     {
         match self {
             Outcome::Repaired(_) => &[],
-            Outcome::Replayed(_, line) | Outcome::SourceRefused(line) | Outcome::Deep(line) => {
-                line.as_slice()
-            }
+            Outcome::Replayed(_, line)
+            | Outcome::SourceRefused(line)
+            | Outcome::Deep(line)
+            | Outcome::Alone(line) => line.as_slice(),
             Outcome::Usage => usage_line(),
             Outcome::TooLong => too_long_line(),
+            Outcome::Limit(limit) => limit_line(*limit),
+            Outcome::Together => together_line(),
             Outcome::ReadFault => read_fault_line(),
             Outcome::Memory => memory_line(),
         }
@@ -73,7 +88,7 @@ impl Outcome {
 
 /// The outcome of a text that is refused so.
 fn refused(alloc: Global, bytes: &[u8], refusal: SourceRefusal) -> Outcome
-    ensures { (asked : Asked) → Refuses asked bytes.now refusal → ComesOf asked bytes.now result }
+    ensures { (asked : Asked) → RefusesSource bytes.now refusal → ComesOf asked bytes.now result }
 {
     let Ok(line) = source_line(alloc, bytes, refusal) else {
         return Outcome::Memory;
@@ -81,10 +96,19 @@ fn refused(alloc: Global, bytes: &[u8], refusal: SourceRefusal) -> Outcome
     match refusal {
         SourceRefusal::Lex(LexRefusal::Depth(_)) => Outcome::Deep(line),
         SourceRefusal::Lex(LexRefusal::Memory) | SourceRefusal::Memory => Outcome::Memory,
-        SourceRefusal::Lex(_)
-        | SourceRefusal::Parse(_)
-        | SourceRefusal::Resolve(_)
-        | SourceRefusal::NotBuilt(_) => Outcome::SourceRefused(line),
+        SourceRefusal::Lex(_) | SourceRefusal::Parse(_) | SourceRefusal::Resolve(_) => {
+            Outcome::SourceRefused(line)
+        }
+    }
+}
+
+/// The outcome of an object that no free fits.
+fn stuck(alloc: Global, bytes: &[u8], site: usize, exit: usize) -> Outcome
+    ensures { OfProgram bytes.now (λ p. IsAlone p site exit) → ComesOf Repair bytes.now result }
+{
+    match alone_line(alloc, bytes, site, exit) {
+        Ok(line) => Outcome::Alone(line),
+        Err(_) => Outcome::Memory,
     }
 }
 
@@ -95,6 +119,9 @@ fn repaired(alloc: Global, bytes: &[u8]) -> Outcome
         Ok(text) => Outcome::Repaired(text),
         Err(RepairRefusal::TooLong) => Outcome::TooLong,
         Err(RepairRefusal::Source(refusal)) => refused(alloc, bytes, refusal),
+        Err(RepairRefusal::Limit(limit)) => Outcome::Limit(limit),
+        Err(RepairRefusal::Alone(site, exit)) => stuck(alloc, bytes, site, exit),
+        Err(RepairRefusal::Together) => Outcome::Together,
         Err(RepairRefusal::Memory) => Outcome::Memory,
     }
 }

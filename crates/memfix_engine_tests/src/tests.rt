@@ -16,6 +16,19 @@ const ONE_REPAIRED: &str =
 const GUARDED: &str =
     "int main(void) { int *p = malloc(sizeof(int)); if (p == NULL) { return 1; } *p = 7; printf(\"%d\\n\", *p); return 0; }";
 
+const GUARDED_REPAIRED: &str =
+    "int main(void) { int *p = malloc(sizeof(int)); if (p == NULL) { return 1; } *p = 7; printf(\"%d\\n\", *p);  free(p); return 0; }";
+
+// No gap follows the last read.
+const STUCK: &str =
+    "int main(void) { int *p = malloc(sizeof(int)); if (p == NULL) { return 1; } *p = 7; return *p; }";
+
+// One exit needs a free in `eat`, one needs a free before `return r`, and an object meets both.
+const TANGLED: &str =
+    "int eat(int *p) { return 0; } int main(void) { int r = 0; int c = getchar(); int *a = malloc(sizeof(int)); if (c == 2) return eat(a); if (c == 1) r = eat(a); return r; }";
+
+const EMPTY: &str = "int main(void) {\n}";
+
 const ECHO: &str =
     "int main(void) { int c = getchar(); putchar(c); c = getchar(); putchar(c); c = getchar(); return c; }";
 
@@ -29,12 +42,12 @@ const EARLY_REPAIRED: &str =
 const OWN: &str =
     "#include <stdio.h>\nint main(void) { int *p = malloc(sizeof(int)); free(p); /* p */ int *q = malloc(sizeof(int)); free(q); return 0; } // end";
 
-// One of its variables is freed twice. The frees before the return stay.
+// Freed twice in one gap.
 const TWICE: &str =
-    "int main(void) { int *p = malloc(sizeof(int)); free(p); int *q = malloc(sizeof(int)); free(p); free(q); return 0; }";
+    "int main(void) { int *p = malloc(sizeof(int)); if (p == NULL) { return 1; } *p = 7; free(p); free(p); return 0; }";
 
 const TWICE_REPAIRED: &str =
-    "int main(void) { int *p = malloc(sizeof(int));        ; int *q = malloc(sizeof(int)); free(p); free(q); return 0; }";
+    "int main(void) { int *p = malloc(sizeof(int)); if (p == NULL) { return 1; } *p = 7;        ;        ;  free(p); return 0; }";
 
 // The words and the source of a call, and the calls of source, output and notes that fail: from 1,
 // or 0 for none.
@@ -94,13 +107,31 @@ fn each_call_has_its_status_and_its_bytes(rt: HostRuntime) -> Result<(), Fail> {
         ("repair", EARLY, (0, 0, 0), 0, EARLY_REPAIRED, ""),
         ("repair", OWN, (0, 0, 0), 0, OWN, ""),
         ("repair", TWICE, (0, 0, 0), 0, TWICE_REPAIRED, ""),
+        ("repair", EMPTY, (0, 0, 0), 0, EMPTY, ""),
+        ("repair", GUARDED, (0, 0, 0), 0, GUARDED_REPAIRED, ""),
         (
             "repair",
-            GUARDED,
+            GUARDED_REPAIRED,
             (0, 0, 0),
-            1,
+            0,
+            GUARDED_REPAIRED,
             "",
-            "memfix: line 1, column 48: not built yet\n",
+        ),
+        (
+            "repair",
+            STUCK,
+            (0, 0, 0),
+            3,
+            "",
+            "memfix: line 1, column 27: no free fits this object on the way to the exit at line 1\n",
+        ),
+        (
+            "repair",
+            TANGLED,
+            (0, 0, 0),
+            3,
+            "",
+            "memfix: no choice of frees covers every object exactly once\n",
         ),
         (
             "replay --steps 9",
@@ -139,7 +170,7 @@ fn each_call_has_its_status_and_its_bytes(rt: HostRuntime) -> Result<(), Fail> {
         // A fault in mid-stream.
         ("repair", ONE, (2, 0, 0), 5, "", "memfix: read fault\n"),
         ("repair", ONE, (0, 2, 0), 6, "int main(", ""),
-        ("repair", GUARDED, (0, 0, 2), 6, "", "memfix: l"),
+        ("repair", STUCK, (0, 0, 2), 6, "", "memfix: l"),
     ] {
         let call = Call {
             words,
@@ -216,7 +247,6 @@ fn each_refused_text_has_its_line(rt: HostRuntime) -> Result<(), Fail> {
             "line 1, column 16: recursion",
         ),
         ("int x;\n", "line 2, column 1: no definition of main"),
-        ("int main(void) {\n}", "line 2, column 1: not built yet"),
     ] {
         let call = Call {
             words: "repair",
@@ -232,13 +262,11 @@ fn each_refused_text_has_its_line(rt: HostRuntime) -> Result<(), Fail> {
     Ok(())
 }
 
-// The status and the notes of `repair` on so many bytes of one kind.
-fn answer_of_many(alloc: Global, byte: u8, count: usize) -> Result<(u8, Vec<u8>), AllocError> {
+// The status and the notes of `repair` on these bytes.
+fn answer_of_bytes(alloc: Global, bytes: Vec<u8>) -> Result<(u8, Vec<u8>), AllocError> {
     let words = words_of(alloc, "repair")?;
-    let mut bytes = Vec::new(alloc);
-    bytes.resize(count, byte)?;
     let mut source = MemSource::new(bytes, 4096, Vec::new(alloc));
-    let mut output = MemSink::new(alloc, 200, 200, Vec::new(alloc))?;
+    let mut output = MemSink::new(alloc, 8192, 4096, Vec::new(alloc))?;
     let mut notes = MemSink::new(alloc, 200, 200, Vec::new(alloc))?;
     let status = memfix(
         alloc,
@@ -249,6 +277,13 @@ fn answer_of_many(alloc: Global, byte: u8, count: usize) -> Result<(u8, Vec<u8>)
     );
     let MemSink { taken: notes, .. } = notes;
     Ok((status, notes))
+}
+
+// So many bytes of one kind.
+fn many(alloc: Global, byte: u8, count: usize) -> Result<Vec<u8>, AllocError> {
+    let mut bytes = Vec::new(alloc);
+    bytes.resize(count, byte)?;
+    Ok(bytes)
 }
 
 #[test]
@@ -269,9 +304,33 @@ fn each_limit_has_its_line(rt: HostRuntime) -> Result<(), Fail> {
         ),
         (b'(', 256, 1, "line 1, column 1: syntax"),
     ] {
-        let (status, notes) = answer_of_many(rt.alloc(), byte, count)?;
+        let (status, notes) = answer_of_bytes(rt.alloc(), many(rt.alloc(), byte, count)?)?;
         let said = format!(in rt.alloc(); "memfix: {line}\n")?;
         assert_eq!(rt; status, wanted, "{line}");
+        assert_eq!(rt; notes.as_slice(), said.as_bytes());
+    }
+    Ok(())
+}
+
+// A text with so many calls, and one context more.
+fn calls(alloc: Global, count: usize) -> Result<Vec<u8>, AllocError> {
+    let mut bytes = Vec::new(alloc);
+    bytes.extend_from_slice(b"void f(void) { } int main(void) { ")?;
+    for _ in 0..count {
+        bytes.extend_from_slice(b"f(); ")?;
+    }
+    bytes.extend_from_slice(b"return 0; }")?;
+    Ok(bytes)
+}
+
+#[test]
+fn a_count_that_passes_its_limit_has_its_line(rt: HostRuntime) -> Result<(), Fail> {
+    for (count, wanted, said) in [
+        (1023, 0, ""),
+        (1024, 4, "memfix: limit: more than 1024 contexts\n"),
+    ] {
+        let (status, notes) = answer_of_bytes(rt.alloc(), calls(rt.alloc(), count)?)?;
+        assert_eq!(rt; status, wanted, "{said}");
         assert_eq!(rt; notes.as_slice(), said.as_bytes());
     }
     Ok(())
