@@ -1,0 +1,77 @@
+// What a store to a field does to the verdict on the same field of another variable, by what is known of the two.
+use crate::certificates::set_of;
+use crate::covers::{facts_of, graph_of, program_of};
+use c_graph::Graph;
+use mf_list::Memory;
+use std::alloc::Global;
+use std::test::Fail;
+use ts_domain::{Facts, Mark, Names, Path, Verdict, number, post, verdict};
+
+/// Expressions 0 to 4 are `a`, `b`, `v`, `a->d` and `b->d`. Node 11 is the store to `a->d`.
+const STORE: &[u8] =
+    b"struct s { int *d; }; int main(void) { struct s *a = malloc(sizeof(struct s)); struct s *b; int *v; b = a; v = malloc(sizeof(int)); a->d = v; b->d = v; return 0; }";
+
+const NODE: usize = 11;
+
+/// The numbers of the facts that `a` and `b` have the same content, and that no object is held by both; and of all facts.
+const EQUAL: usize = 8;
+
+const APART: usize = 11;
+
+const FACTS: usize = 14;
+
+/// The facts of the graph with others at the node.
+fn facts_with(
+    alloc: Global,
+    graph: &Graph,
+    names: &Names,
+    noted: &[usize],
+) -> Result<Facts, Memory> {
+    let Facts { may, path } = facts_of(alloc, graph, names)?;
+    let Path { mut at } = path;
+    let set = set_of(alloc, FACTS, noted)?;
+    if NODE < at.len() {
+        at.set(NODE, set);
+    }
+    Ok(Facts {
+        may,
+        path: Path { at },
+    })
+}
+
+/// The verdicts on `a->d` and `b->d` behind the store, of an object that `v`, `a` and `b` lack and `b->d` holds. `None` where
+/// there is not the one mark, untouched.
+fn verdicts(alloc: Global, noted: &[usize]) -> Result<Option<(Verdict, Verdict)>, Fail> {
+    let program = program_of(alloc, STORE)?;
+    let graph = graph_of(alloc, &program)?;
+    let names = number(alloc, &graph, &program)?;
+    let facts = facts_with(alloc, &graph, &names, noted)?;
+    let mark = Mark {
+        site: 1,
+        holds: set_of(alloc, 5, &[4])?,
+        lacks: set_of(alloc, 5, &[0, 1, 2])?,
+    };
+    let edges = graph.edges.as_slice();
+    let Some(edge) = edges.iter().find(|edge| edge.from == NODE) else {
+        return Ok(None);
+    };
+    let steps = post(alloc, &graph, &names, &facts, &mark, edge)?;
+    match steps.as_slice() {
+        [step] if !step.touched => Ok(Some((verdict(&step.mark, 3), verdict(&step.mark, 4)))),
+        _ => Ok(None),
+    }
+}
+
+#[test]
+fn a_store_tells_of_the_same_field_elsewhere(rt: HostRuntime) -> Result<(), Fail> {
+    let cases: [(&[usize], Verdict); 3] = [
+        (&[], Verdict::Open),
+        (&[APART], Verdict::Yes),
+        (&[EQUAL], Verdict::No),
+    ];
+    for (noted, other) in &cases {
+        let found = verdicts(rt.alloc(), noted)?;
+        assert_eq!(rt; found, Some((Verdict::No, *other)));
+    }
+    Ok(())
+}
