@@ -1,5 +1,6 @@
 // The certificate of a cover of the program of a text.
-use alias_facts::may;
+ghost use Rattle.c_tree.specs.Fill.{IsAscending};
+
 use c_graph::Graph;
 use c_lexer::lex;
 use c_parser::parse;
@@ -9,15 +10,14 @@ use call_contexts::contexts;
 use cert_checker::{CheckRefusal, check};
 use cfg_lower::lower;
 use cover_certificate::{Cert, make};
-use cover_clauses::{choice_of, clauses};
-use cover_problem::{Problem, problem};
-use mf_list::Memory;
-use path_facts::path;
-use sat_core::{Answer, solve};
+use cover_tests::choices::{Found, solved};
+use cover_tests::problems::problem_in;
 use std::alloc::Global;
 use std::test::Fail;
-use ts_domain::{Facts, Names, number};
+use ts_domain::{Names, number};
 use typestate_fixpoint::derive;
+use typestate_fixpoint_tests::facts::facts_of;
+use typestate_fixpoint_tests::order::ascends;
 
 /// A graph with its names and a certificate for it.
 #[derive(Drop)]
@@ -44,46 +44,46 @@ pub fn graph_of(alloc: Global, program: &Program) -> Result<Graph, Fail> {
     Ok(lower(alloc, program, &contexts)?)
 }
 
-pub fn facts_of(alloc: Global, graph: &Graph, names: &Names) -> Result<Facts, Memory> {
-    let may = may(alloc, graph, names)?;
-    let path = path(alloc, graph, names)?;
-    Ok(Facts { may, path })
+fn cover_of(alloc: Global, program: &Program) -> Result<Found, Fail> {
+    let graph = graph_of(alloc, program)?;
+    let names = number(alloc, &graph, program)?;
+    let facts = facts_of(alloc, &graph, &names)?;
+    let problem = problem_in(alloc, &graph, &names, &facts)?;
+    Ok(solved(alloc, &problem, false)?)
 }
 
-/// A cover, if there is one.
-fn cover_of(alloc: Global, problem: &Problem) -> Result<Option<Choice>, Fail> {
-    let clauses = clauses(alloc, problem)?;
-    let hint = vec![in alloc; false; clauses.vars]?;
-    match solve(alloc, &clauses, hint.as_slice())? {
-        Answer::Unsat(_) => Ok(None),
-        Answer::Sat(bits) => Ok(Some(choice_of(alloc, problem, bits.as_slice())?)),
-    }
+/// The certificate of a cover of a program.
+fn made(alloc: Global, program: &Program, choice: &Choice) -> Result<Cert, Fail>
+    requires { IsAscending choice.now }
+{
+    let graph = graph_of(alloc, program)?;
+    let names = number(alloc, &graph, program)?;
+    let facts = facts_of(alloc, &graph, &names)?;
+    let derived = derive(alloc, &graph, &names, &facts)?;
+    Ok(make(alloc, &graph, &derived, &names, &facts, choice)?)
 }
 
-/// The graph of the program with the frees of a cover, and the certificate of that cover.
+/// The graph of the program with the frees of a cover, and the certificate of that cover; None where it doesn't ascend.
 fn certified_by(
     alloc: Global,
     program: &Program,
     choice: &Choice,
-    cert: Cert,
-) -> Result<Certified, Fail> {
+) -> Result<Option<Certified>, Fail> {
+    if !ascends(choice.puts.as_slice()) {
+        return Ok(None);
+    }
+    let cert = made(alloc, program, choice)?;
     let filled = fill(alloc, program, choice)?;
     let graph = graph_of(alloc, &filled)?;
     let names = number(alloc, &graph, &filled)?;
-    Ok(Certified { graph, names, cert })
+    Ok(Some(Certified { graph, names, cert }))
 }
 
 /// The same for the program of a text, if it has a cover.
 pub fn certified(alloc: Global, text: &[u8]) -> Result<Option<Certified>, Fail> {
     let program = program_of(alloc, text)?;
-    let graph = graph_of(alloc, &program)?;
-    let names = number(alloc, &graph, &program)?;
-    let facts = facts_of(alloc, &graph, &names)?;
-    let derived = derive(alloc, &graph, &names, &facts)?;
-    let problem = problem(alloc, &graph, &derived, &names, &facts)?;
-    let Some(choice) = cover_of(alloc, &problem)? else {
-        return Ok(None);
-    };
-    let cert = make(alloc, &graph, &derived, &names, &facts, &choice)?;
-    Ok(Some(certified_by(alloc, &program, &choice, cert)?))
+    match cover_of(alloc, &program)? {
+        Found::Nothing(_, _) => Ok(None),
+        Found::Puts(choice) => certified_by(alloc, &program, &choice),
+    }
 }

@@ -1,11 +1,12 @@
 // What a store to a field does to the verdict on the same field of another variable, by what is known of the two.
 use crate::certificates::set_of;
-use crate::covers::{facts_of, graph_of, program_of};
+use crate::covers::{graph_of, program_of};
 use c_graph::Graph;
 use mf_list::Memory;
 use std::alloc::Global;
 use std::test::Fail;
 use ts_domain::{Facts, Mark, Names, Path, Verdict, number, post, verdict};
+use typestate_fixpoint_tests::facts::facts_of;
 
 /// Expressions 0 to 4 are `a`, `b`, `v`, `a->d` and `b->d`. Node 11 is the store to `a->d`.
 const STORE: &[u8] =
@@ -56,10 +57,13 @@ fn verdicts(alloc: Global, noted: &[usize]) -> Result<Option<(Verdict, Verdict)>
         return Ok(None);
     };
     let steps = post(alloc, &graph, &names, &facts, &mark, edge)?;
-    match steps.as_slice() {
-        [step] if !step.touched => Ok(Some((verdict(&step.mark, 3), verdict(&step.mark, 4)))),
-        _ => Ok(None),
+    let [step] = steps.as_slice() else {
+        return Ok(None);
+    };
+    if step.touched {
+        return Ok(None);
     }
+    Ok(Some((verdict(&step.mark, 3), verdict(&step.mark, 4))))
 }
 
 #[test]

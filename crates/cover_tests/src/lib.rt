@@ -1,10 +1,13 @@
-//! Tests of what a choice of puts has to meet, of its clauses and of their solutions, from the texts of programs.
+//! Tests of what a choice of puts has to meet, of its clauses and of their solutions, from the texts of programs. The tests of
+//! certificates share the problem and the solution with them.
 #![tactic(auto)]
 
 #[cfg(test)]
 mod cases;
+pub mod choices;
 #[cfg(test)]
-mod problems;
+mod posed;
+pub mod problems;
 #[cfg(test)]
 mod rows;
 #[cfg(test)]

