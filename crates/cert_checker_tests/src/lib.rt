@@ -10,6 +10,8 @@ mod covers;
 #[cfg(test)]
 mod reasons;
 #[cfg(test)]
+mod splits;
+#[cfg(test)]
 mod stores;
 #[cfg(test)]
 mod tests;

@@ -5,14 +5,14 @@ use c_graph::Graph;
 use mf_list::Memory;
 use std::alloc::Global;
 use std::test::Fail;
-use ts_domain::{Facts, Mark, Names, Path, Verdict, number, post, verdict};
+use ts_domain::{Alias, Facts, Mark, Names, Path, Verdict, alias, number, post, verdict};
 use typestate_fixpoint_tests::facts::facts_of;
 
 /// Expressions 0 to 4 are `a`, `b`, `v`, `a->d` and `b->d`. Node 11 is the store to `a->d`.
-const STORE: &[u8] =
+pub const STORE: &[u8] =
     b"struct s { int *d; }; int main(void) { struct s *a = malloc(sizeof(struct s)); struct s *b; int *v; b = a; v = malloc(sizeof(int)); a->d = v; b->d = v; return 0; }";
 
-const NODE: usize = 11;
+pub const NODE: usize = 11;
 
 /// The numbers of the facts that `a` and `b` have the same content, and that no object is held by both; and of all facts.
 const EQUAL: usize = 8;
@@ -40,9 +40,9 @@ fn facts_with(
     })
 }
 
-/// The verdicts on `a->d` and `b->d` behind the store, of an object that `v`, `a` and `b` lack and `b->d` holds. `None` where
-/// there is not the one mark, untouched.
-fn verdicts(alloc: Global, noted: &[usize]) -> Result<Option<(Verdict, Verdict)>, Fail> {
+/// Whether `b` is `a`, and the verdicts on `a->d` and `b->d` behind the store, of an object that `v`, `a` and `b` lack and
+/// `b->d` holds. `None` where there is not the one mark, untouched.
+fn stored(alloc: Global, noted: &[usize]) -> Result<Option<(Alias, Verdict, Verdict)>, Fail> {
     let program = program_of(alloc, STORE)?;
     let graph = graph_of(alloc, &program)?;
     let names = number(alloc, &graph, &program)?;
@@ -63,19 +63,20 @@ fn verdicts(alloc: Global, noted: &[usize]) -> Result<Option<(Verdict, Verdict)>
     if step.touched {
         return Ok(None);
     }
-    Ok(Some((verdict(&step.mark, 3), verdict(&step.mark, 4))))
+    let other = alias(&names, &facts, NODE, &mark, 1, 0);
+    Ok(Some((other, verdict(&step.mark, 3), verdict(&step.mark, 4))))
 }
 
 #[test]
 fn a_store_tells_of_the_same_field_elsewhere(rt: HostRuntime) -> Result<(), Fail> {
-    let cases: [(&[usize], Verdict); 3] = [
-        (&[], Verdict::Open),
-        (&[APART], Verdict::Yes),
-        (&[EQUAL], Verdict::No),
+    let cases: [(&[usize], Alias, Verdict); 3] = [
+        (&[], Alias::Maybe, Verdict::Open),
+        (&[APART], Alias::Diff, Verdict::Yes),
+        (&[EQUAL], Alias::Same, Verdict::No),
     ];
-    for (noted, other) in &cases {
-        let found = verdicts(rt.alloc(), noted)?;
-        assert_eq!(rt; found, Some((Verdict::No, *other)));
+    for (noted, other, verdict) in &cases {
+        let found = stored(rt.alloc(), noted)?;
+        assert_eq!(rt; found, Some((*other, Verdict::No, *verdict)));
     }
     Ok(())
 }

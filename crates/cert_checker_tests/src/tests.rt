@@ -10,7 +10,7 @@ use ts_domain::number;
 use typestate_fixpoint_tests::programs;
 
 /// Programs that have a cover.
-const COVERED: [&[u8]; 12] = [
+const COVERED: [&[u8]; 20] = [
     programs::BRANCH,
     programs::BREAK_AND_CONTINUE,
     programs::FOR_FORMS,
@@ -23,6 +23,14 @@ const COVERED: [&[u8]; 12] = [
     programs::WRAPPER,
     programs::SWAP_AND_COMPARE,
     programs::CLOSING_BRACE,
+    programs::TWO_FREES,
+    programs::FREE_BEFORE_A_READ,
+    programs::TWO_LEAKS,
+    programs::NEW_IN_EACH_TURN,
+    programs::BUFFER,
+    programs::UNSET_ELSEWHERE,
+    programs::ENDLESS,
+    programs::TWO_NAMES,
 ];
 
 /// What the check says of the certificate of a cover, if there is one.

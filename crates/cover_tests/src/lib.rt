@@ -6,6 +6,8 @@
 mod cases;
 pub mod choices;
 #[cfg(test)]
+mod covered;
+#[cfg(test)]
 mod posed;
 pub mod problems;
 #[cfg(test)]

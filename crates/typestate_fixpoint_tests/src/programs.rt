@@ -215,3 +215,53 @@ pub const FAULTS: &[u8] = b"int main(void) {
   if (c == 57) { int *z; free(z); }
   return -7 / 2 + -7 % 2;
 }";
+
+/// Two frees in one gap.
+pub const TWO_FREES: &[u8] =
+    b"int main(void) { int *p = malloc(sizeof(int)); if (p == NULL) { return 1; } *p = 7; free(p); free(p); return 0; }";
+
+/// A free before a read.
+pub const FREE_BEFORE_A_READ: &[u8] =
+    b"int main(void) { int x; int *p = malloc(sizeof(int)); if (p == NULL) { return 1; } *p = 3; free(p); x = *p; return x; }";
+
+/// Two objects, of which the first leaks where the second is not there.
+pub const TWO_LEAKS: &[u8] =
+    b"int main(void) { int *q = malloc(sizeof(int)); int *p; if (q == NULL) return 2; p = malloc(sizeof(int)); if (p == NULL) return 1; *p = 2; *q = 3; printf(\"%d\\n\", *p + *q); return 0; }";
+
+/// A new object in each turn of a loop.
+pub const NEW_IN_EACH_TURN: &[u8] =
+    b"int main(void) { int i = 0; while (i < 3) { int *p = malloc(sizeof(int)); if (p == NULL) return 1; *p = 1; i += *p; } printf(\"%d\\n\", i); return 0; }";
+
+/// A file with a struct.
+pub const BUFFER: &[u8] = b"#include <stdio.h>
+#include <stdlib.h>
+struct buf { int len; int *data; };
+struct buf *make(int n) {
+  struct buf *b = malloc(sizeof(struct buf));
+  if (b == NULL) return NULL;
+  b->data = malloc(n * sizeof(int));
+  if (b->data == NULL) return NULL;
+  b->len = n;
+  return b;
+}
+int main(void) {
+  int i;
+  struct buf *b = make(4);
+  if (b == NULL) return 1;
+  for (i = 0; i < b->len; i++) { b->data[i] = i * i; }
+  printf(\"%d\\n\", b->data[3]);
+  free(b);
+  return 0;
+}
+";
+
+/// A variable that is unset on the other path.
+pub const UNSET_ELSEWHERE: &[u8] =
+    b"int main(void) { int c = getchar(); int *p; if (c == 'a') { p = malloc(sizeof(int)); if (p == NULL) return 1; *p = c; } return 0; }";
+
+/// No exit is reached.
+pub const ENDLESS: &[u8] = b"int main(void) { int *p = malloc(sizeof(int)); while (1) { } }";
+
+/// Two names for one object.
+pub const TWO_NAMES: &[u8] =
+    b"int main(void) { int *p = malloc(sizeof(int)); int *q; if (p == NULL) return 1; q = p; free(p); *q = 1; return 0; }";
