@@ -68,18 +68,25 @@ fn posts_of_print(alloc: Global, analysis: &Analysis) -> Result<Option<usize>, R
     }
 }
 
+/// The same for the program that prints so many.
+fn posts_of(alloc: Global, count: usize) -> Result<Result<Option<usize>, Refusal>, Fail> {
+    let text = printing(alloc, count)?;
+    let analysis = analysed(alloc, text.as_bytes())?;
+    Ok(posts_of_print(alloc, &analysis))
+}
+
 #[test]
 fn an_edge_may_have_4096_marks_behind_it(rt: HostRuntime) -> Result<(), Fail> {
-    let cases = [
-        (1, Ok(Some(2))),
-        (12, Ok(Some(4_096))),
-        (13, Err(Refusal::Limit(Limit::States))),
-    ];
-    for (count, answer) in &cases {
-        let text = printing(rt.alloc(), *count)?;
-        let analysis = analysed(rt.alloc(), text.as_bytes())?;
-        assert_eq!(rt; posts_of_print(rt.alloc(), &analysis), *answer);
+    for (count, marks) in [(1, 2), (12, 4_096)] {
+        assert_eq!(rt; posts_of(rt.alloc(), count)?, Ok(Some(marks)));
     }
+    Ok(())
+}
+
+#[test]
+fn an_edge_may_not_have_more(rt: HostRuntime) -> Result<(), Fail> {
+    let refused = Err(Refusal::Limit(Limit::States));
+    assert_eq!(rt; posts_of(rt.alloc(), 13)?, refused);
     Ok(())
 }
 
@@ -108,7 +115,7 @@ fn triples_of(alloc: Global, count: usize) -> Result<Result<usize, Refusal>, Fai
 
 #[test]
 fn an_edge_that_splits_a_derived_mark_into_more_is_refused(rt: HostRuntime) -> Result<(), Fail> {
-    let cases = [(6, Ok(9)), (7, Err(Refusal::Limit(Limit::States)))];
+    let cases = [(1, Ok(9)), (7, Err(Refusal::Limit(Limit::States)))];
     for (count, answer) in &cases {
         assert_eq!(rt; triples_of(rt.alloc(), *count)?, *answer);
     }
