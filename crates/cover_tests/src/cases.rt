@@ -323,22 +323,31 @@ const FAULTS: Case = Case {
     has_cover: false,
 };
 
-pub const CASES: &[Case] = &[
+/// Tests, loops and ways that leave them.
+pub const BRANCHES: &[Case] = &[
     BRANCH,
     BREAK_AND_CONTINUE,
     FOR_FORMS,
     CONDITIONS,
+    ELSE_IF,
+    FAULTS,
+];
+
+/// Functions that are called, once, twice and never.
+pub const CALLS: &[Case] = &[
     CALLS_IN_TWO_CONTEXTS,
     RETURN_OF_A_CALL,
-    FIELDS_AND_ALIASES,
     AN_UNREACHED_FUNCTION,
-    ELSE_IF,
+    WRAPPER,
+    CLOSING_BRACE,
+];
+
+/// Objects with fields, with frees of their own, without any choice, and with two names.
+pub const OBJECTS: &[Case] = &[
+    FIELDS_AND_ALIASES,
     OWN_FREES_AND_BLOCKS,
     STRUCT_CHAIN,
     LIST,
-    WRAPPER,
     NO_CHOICE,
     SWAP_AND_COMPARE,
-    CLOSING_BRACE,
-    FAULTS,
 ];

@@ -1,7 +1,7 @@
 // The bits that satisfy the clauses of worked programs are covers; where there is no cover a log says so.
 ghost use Rattle.cover_problem.specs.Problem.{HasRooms};
 
-use crate::cases::{CASES, Case};
+use crate::cases::{BRANCHES, CALLS, Case, OBJECTS};
 use crate::choices::{Found, solved};
 use crate::posed::posed;
 use c_tree::Choice;
@@ -52,10 +52,29 @@ fn is_right(alloc: Global, case: &Case) -> Result<bool, Fail> {
     Ok(first && other && by_none == case.exits.is_empty())
 }
 
-#[test]
-fn solutions_are_covers(rt: HostRuntime) -> Result<(), Fail> {
-    for (place, case) in CASES.iter().enumerate() {
-        assert!(rt; is_right(rt.alloc(), case)?, "the program of place {place}");
+fn are_right(alloc: Global, cases: &[Case]) -> Result<bool, Fail> {
+    for case in cases {
+        if !is_right(alloc, case)? {
+            return Ok(false);
+        }
     }
+    Ok(true)
+}
+
+#[test]
+fn solutions_for_branches_are_covers(rt: HostRuntime) -> Result<(), Fail> {
+    assert!(rt; are_right(rt.alloc(), BRANCHES)?);
+    Ok(())
+}
+
+#[test]
+fn solutions_for_calls_are_covers(rt: HostRuntime) -> Result<(), Fail> {
+    assert!(rt; are_right(rt.alloc(), CALLS)?);
+    Ok(())
+}
+
+#[test]
+fn solutions_for_objects_are_covers(rt: HostRuntime) -> Result<(), Fail> {
+    assert!(rt; are_right(rt.alloc(), OBJECTS)?);
     Ok(())
 }

@@ -1,10 +1,10 @@
 // The cover problems of worked programs, and their clauses.
 ghost use Rattle.cover_problem.specs.Problem.{HasRooms};
 
-use crate::cases::{CASES, Case};
+use crate::cases::{BRANCHES, CALLS, Case, OBJECTS};
 use crate::choices::all_puts;
 use crate::posed::posed;
-use crate::shown::{missing, shown_clauses, shown_exits, shown_puts, shown_set, untold};
+use crate::shown::{are_there, are_told, shown_clauses, shown_exits, shown_puts, shown_set};
 use cover_clauses::clauses;
 use cover_problem::{Problem, alone};
 use std::alloc::Global;
@@ -20,8 +20,8 @@ fn assert_problem(
     let allowed = shown_set(alloc, &problem.allowed)?;
     assert_eq!(rt; allowed.as_str(), case.allowed);
     let exits = shown_exits(alloc, problem.exits.as_slice())?;
-    assert_eq!(rt; untold(exits.as_slice(), case.exits), None);
-    assert_eq!(rt; missing(exits.as_slice(), case.exits), None);
+    assert!(rt; are_told(exits.as_slice(), case.exits));
+    assert!(rt; are_there(exits.as_slice(), case.exits));
     assert_eq!(rt; alone(problem), case.alone);
     Ok(())
 }
@@ -36,8 +36,8 @@ fn assert_clauses(
 {
     let clauses = clauses(alloc, problem)?;
     let lines = shown_clauses(alloc, clauses.list.as_slice())?;
-    assert_eq!(rt; untold(lines.as_slice(), case.clauses), None);
-    assert_eq!(rt; missing(lines.as_slice(), case.clauses), None);
+    assert!(rt; are_told(lines.as_slice(), case.clauses));
+    assert!(rt; are_there(lines.as_slice(), case.clauses));
     assert_eq!(rt; lines.len(), case.clauses.len());
     let all = all_puts(alloc, problem, &clauses)?;
     let usable = shown_puts(alloc, problem.names.puts.as_slice(), all.puts.as_slice())?;
@@ -45,12 +45,26 @@ fn assert_clauses(
     Ok(())
 }
 
-#[test]
-fn problems_and_clauses_are_those_that_are_told(rt: HostRuntime) -> Result<(), Fail> {
-    for case in CASES {
-        let found = posed(rt.alloc(), case.text)?;
-        assert_problem(&rt, rt.alloc(), case, &found.problem)?;
-        assert_clauses(&rt, rt.alloc(), case, &found.problem)?;
+fn assert_all(rt: &impl Abort, alloc: Global, cases: &[Case]) -> Result<(), Fail> {
+    for case in cases {
+        let found = posed(alloc, case.text)?;
+        assert_problem(rt, alloc, case, &found.problem)?;
+        assert_clauses(rt, alloc, case, &found.problem)?;
     }
     Ok(())
+}
+
+#[test]
+fn problems_and_clauses_of_branches_are_told(rt: HostRuntime) -> Result<(), Fail> {
+    assert_all(&rt, rt.alloc(), BRANCHES)
+}
+
+#[test]
+fn problems_and_clauses_of_calls_are_told(rt: HostRuntime) -> Result<(), Fail> {
+    assert_all(&rt, rt.alloc(), CALLS)
+}
+
+#[test]
+fn problems_and_clauses_of_objects_are_told(rt: HostRuntime) -> Result<(), Fail> {
+    assert_all(&rt, rt.alloc(), OBJECTS)
 }

@@ -540,16 +540,16 @@ const SWAP_AND_COMPARE: Case = Case {
     pairs: "",
 };
 
-pub const CASES: &[Case] = &[
-    BRANCH,
-    BREAK_AND_CONTINUE,
-    CONDITIONS,
+/// Tests, loops and ways that leave them.
+pub const BRANCHES: &[Case] = &[BRANCH, BREAK_AND_CONTINUE, CONDITIONS, ELSE_IF];
+
+/// Functions that are called, once, twice and never.
+pub const CALLS: &[Case] = &[
     CALLS_IN_TWO_CONTEXTS,
     RETURN_OF_A_CALL,
     AN_UNREACHED_FUNCTION,
-    ELSE_IF,
-    OWN_FREES_AND_BLOCKS,
     WRAPPER,
-    NO_CHOICE,
-    SWAP_AND_COMPARE,
 ];
+
+/// Objects with frees of their own, without any choice, and with two names.
+pub const OBJECTS: &[Case] = &[OWN_FREES_AND_BLOCKS, NO_CHOICE, SWAP_AND_COMPARE];

@@ -1,5 +1,5 @@
-// How many marks an edge may have behind it, for one mark and for what is derived.
-use crate::analysis::{Analysis, analysed, derived};
+// How many marks an edge may have behind it.
+use crate::analysis::{Analysis, analysed};
 use c_graph::{Action, Edge, Graph, NodeKind};
 use c_tree::{Limit, Refusal};
 use mf_list::Memory;
@@ -87,37 +87,5 @@ fn an_edge_may_have_4096_marks_behind_it(rt: HostRuntime) -> Result<(), Fail> {
 fn an_edge_may_not_have_more(rt: HostRuntime) -> Result<(), Fail> {
     let refused = Err(Refusal::Limit(Limit::States));
     assert_eq!(rt; posts_of(rt.alloc(), 13)?, refused);
-    Ok(())
-}
-
-/// A program that compares two reads of a longer chain so many times, all in one assignment.
-fn comparing(alloc: Global, count: usize) -> Result<String, Memory> {
-    let mut text = String::new(alloc);
-    text.push_str("struct s { struct s *f; }; int main(void) { int n; ")?;
-    text.push_str(
-        "struct s *p = malloc(sizeof(struct s)); if (p == NULL) { return 1; } p->f = p; n = ",
-    )?;
-    for _ in 0..count {
-        text.push_str("(p->f->f == p->f->f) + ")?;
-    }
-    text.push_str("0; return 0; }")?;
-    Ok(text)
-}
-
-fn triples_of(alloc: Global, count: usize) -> Result<Result<usize, Refusal>, Fail> {
-    let text = comparing(alloc, count)?;
-    let analysis = analysed(alloc, text.as_bytes())?;
-    match derived(alloc, &analysis) {
-        Ok(derived) => Ok(Ok(derived.triples.len())),
-        Err(refusal) => Ok(Err(refusal)),
-    }
-}
-
-#[test]
-fn an_edge_that_splits_a_derived_mark_into_more_is_refused(rt: HostRuntime) -> Result<(), Fail> {
-    let cases = [(1, Ok(9)), (7, Err(Refusal::Limit(Limit::States)))];
-    for (count, answer) in &cases {
-        assert_eq!(rt; triples_of(rt.alloc(), *count)?, *answer);
-    }
     Ok(())
 }

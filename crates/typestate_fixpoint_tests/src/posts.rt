@@ -1,9 +1,9 @@
 // Births and posts of triples are the triples that are told, and no others: behind a touch without candidates, and behind a gap
 // with its puts whose expressions the mark holds.
 use crate::analysis::{Analysis, analysed, derived};
-use crate::cases::{CASES, Case};
+use crate::cases::{BRANCHES, CALLS, Case, OBJECTS};
 use crate::field_cases::FIELD_CASES;
-use crate::shown::{missing, shown, untold};
+use crate::shown::{are_there, are_told, shown};
 use c_graph::{Edge, NodeKind};
 use c_tree::Put;
 use mf_list::Memory;
@@ -135,23 +135,34 @@ fn behind_edges(alloc: Global, analysis: &Analysis) -> Result<Vec<String>, Fail>
 fn assert_posts(rt: &impl Abort, alloc: Global, case: &Case) -> Result<(), Fail> {
     let analysis = analysed(alloc, case.text)?;
     let lines = behind_edges(alloc, &analysis)?;
-    assert_eq!(rt; untold(lines.as_slice(), case.triples), None);
-    assert_eq!(rt; missing(lines.as_slice(), case.triples), None);
+    assert!(rt; are_told(lines.as_slice(), case.triples));
+    assert!(rt; are_there(lines.as_slice(), case.triples));
     Ok(())
 }
 
-#[test]
-fn births_and_posts_are_those_that_are_told(rt: HostRuntime) -> Result<(), Fail> {
-    for case in CASES {
-        assert_posts(&rt, rt.alloc(), case)?;
+fn assert_all(rt: &impl Abort, alloc: Global, cases: &[Case]) -> Result<(), Fail> {
+    for case in cases {
+        assert_posts(rt, alloc, case)?;
     }
     Ok(())
 }
 
 #[test]
-fn births_and_posts_of_fields_are_those_that_are_told(rt: HostRuntime) -> Result<(), Fail> {
-    for case in FIELD_CASES {
-        assert_posts(&rt, rt.alloc(), case)?;
-    }
-    Ok(())
+fn births_and_posts_of_branches_are_told(rt: HostRuntime) -> Result<(), Fail> {
+    assert_all(&rt, rt.alloc(), BRANCHES)
+}
+
+#[test]
+fn births_and_posts_of_calls_are_told(rt: HostRuntime) -> Result<(), Fail> {
+    assert_all(&rt, rt.alloc(), CALLS)
+}
+
+#[test]
+fn births_and_posts_of_objects_are_told(rt: HostRuntime) -> Result<(), Fail> {
+    assert_all(&rt, rt.alloc(), OBJECTS)
+}
+
+#[test]
+fn births_and_posts_of_fields_are_told(rt: HostRuntime) -> Result<(), Fail> {
+    assert_all(&rt, rt.alloc(), FIELD_CASES)
 }

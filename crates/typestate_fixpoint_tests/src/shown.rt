@@ -77,23 +77,23 @@ pub fn shown_pairs(alloc: Global, pairs: &[(usize, usize)]) -> Result<String, Me
     Ok(line)
 }
 
-/// The first line that isn't told.
-pub fn untold<'a>(lines: &'a [String], told: &[&str]) -> Option<&'a str> {
+/// Whether all lines are told.
+pub fn are_told(lines: &[String], told: &[&str]) -> bool {
     for line in lines {
         let line = line.as_str();
         if told.iter().all(|other| line != *other) {
-            return Some(line);
+            return false;
         }
     }
-    None
+    true
 }
 
-/// The first told line that is missing.
-pub fn missing<'a>(lines: &[String], told: &[&'a str]) -> Option<&'a str> {
+/// Whether all told lines are there.
+pub fn are_there(lines: &[String], told: &[&str]) -> bool {
     for line in told {
         if lines.iter().all(|other| other.as_str() != *line) {
-            return Some(*line);
+            return false;
         }
     }
-    None
+    true
 }

@@ -1,8 +1,8 @@
 // What is derived from worked programs: triples, forbidden puts and pairs that conflict.
 use crate::analysis::{analysed, derived};
-use crate::cases::{CASES, Case};
+use crate::cases::{BRANCHES, CALLS, Case, OBJECTS};
 use crate::field_cases::FIELD_CASES;
-use crate::shown::{missing, shown, shown_numbers, shown_pairs, untold};
+use crate::shown::{are_there, are_told, shown, shown_numbers, shown_pairs};
 use mf_list::Memory;
 use std::alloc::Global;
 use std::process::Abort;
@@ -29,8 +29,8 @@ fn assert_derived(rt: &impl Abort, alloc: Global, case: &Case) -> Result<(), Fai
     let analysis = analysed(alloc, case.text)?;
     let derived = derived(alloc, &analysis)?;
     let lines = triple_lines(alloc, &derived, expression_count(&analysis.names))?;
-    assert_eq!(rt; untold(lines.as_slice(), case.triples), None);
-    assert_eq!(rt; missing(lines.as_slice(), case.triples), None);
+    assert!(rt; are_told(lines.as_slice(), case.triples));
+    assert!(rt; are_there(lines.as_slice(), case.triples));
     assert_eq!(rt; lines.len(), case.triples.len());
     let forbidden = derived.forbidden.to_vec(alloc)?;
     let forbidden = shown_numbers(alloc, forbidden.as_slice())?;
@@ -40,18 +40,29 @@ fn assert_derived(rt: &impl Abort, alloc: Global, case: &Case) -> Result<(), Fai
     Ok(())
 }
 
-#[test]
-fn derives_what_is_told(rt: HostRuntime) -> Result<(), Fail> {
-    for case in CASES {
-        assert_derived(&rt, rt.alloc(), case)?;
+fn assert_all(rt: &impl Abort, alloc: Global, cases: &[Case]) -> Result<(), Fail> {
+    for case in cases {
+        assert_derived(rt, alloc, case)?;
     }
     Ok(())
 }
 
 #[test]
+fn derives_what_is_told_of_branches(rt: HostRuntime) -> Result<(), Fail> {
+    assert_all(&rt, rt.alloc(), BRANCHES)
+}
+
+#[test]
+fn derives_what_is_told_of_calls(rt: HostRuntime) -> Result<(), Fail> {
+    assert_all(&rt, rt.alloc(), CALLS)
+}
+
+#[test]
+fn derives_what_is_told_of_objects(rt: HostRuntime) -> Result<(), Fail> {
+    assert_all(&rt, rt.alloc(), OBJECTS)
+}
+
+#[test]
 fn derives_what_is_told_of_fields(rt: HostRuntime) -> Result<(), Fail> {
-    for case in FIELD_CASES {
-        assert_derived(&rt, rt.alloc(), case)?;
-    }
-    Ok(())
+    assert_all(&rt, rt.alloc(), FIELD_CASES)
 }
