@@ -80,7 +80,7 @@ fn certified_by(
 }
 
 /// The same for the program of a text, if it has a cover.
-pub fn certified(alloc: Global, text: &[u8]) -> Result<Option<Certified>, Fail> {
+pub fn certify(alloc: Global, text: &[u8]) -> Result<Option<Certified>, Fail> {
     let program = program_of(alloc, text)?;
     match cover_of(alloc, &program)? {
         Found::Nothing(_, _) => Ok(None),

@@ -2,7 +2,7 @@
 // two programs.
 use crate::certificates::Line;
 use crate::changes::{Change, changed};
-use crate::covers::{Certified, certified};
+use crate::covers::{Certified, certify};
 use cert_checker::CheckRefusal;
 use std::alloc::Global;
 use std::test::Fail;
@@ -67,7 +67,7 @@ fn checks(
     text: &[u8],
     change: Change,
 ) -> Result<Option<(Result<(), CheckRefusal>, Result<(), CheckRefusal>)>, Fail> {
-    let Some(whole) = certified(alloc, text)? else {
+    let Some(whole) = certify(alloc, text)? else {
         return Ok(None);
     };
     let before = whole.check(alloc);

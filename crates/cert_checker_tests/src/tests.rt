@@ -1,7 +1,7 @@
 // Certificates of covers are closed for the programs with their frees.
 use crate::certificates::{FREED, is_same, told};
 use crate::changes::{Change, changed};
-use crate::covers::{Certified, certified, graph_of, program_of};
+use crate::covers::{Certified, certify, graph_of, program_of};
 use cert_checker::CheckRefusal;
 use cover_certificate::Cert;
 use std::alloc::Global;
@@ -35,7 +35,7 @@ const COVERED: [&[u8]; 20] = [
 
 /// What the check says of the certificate of a cover, if there is one.
 fn checked(alloc: Global, text: &[u8]) -> Result<Option<Result<(), CheckRefusal>>, Fail> {
-    match certified(alloc, text)? {
+    match certify(alloc, text)? {
         None => Ok(None),
         Some(whole) => Ok(Some(whole.check(alloc))),
     }
@@ -52,7 +52,7 @@ fn certificates_of_covers_are_closed(rt: HostRuntime) -> Result<(), Fail> {
 
 /// Whether the certificate that is made for the leak is the one that is told.
 fn makes_the_told_one(alloc: Global) -> Result<bool, Fail> {
-    match certified(alloc, programs::BRANCH)? {
+    match certify(alloc, programs::BRANCH)? {
         None => Ok(false),
         Some(whole) => Ok(is_same(&whole.cert, &told(alloc)?)),
     }

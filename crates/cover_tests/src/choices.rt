@@ -19,7 +19,7 @@ pub enum Found {
     Nothing(Clauses, Log),
 }
 
-fn found(
+fn searched(
     alloc: Global,
     problem: &Problem,
     clauses: Clauses,
@@ -45,7 +45,7 @@ pub fn solved(alloc: Global, problem: &Problem, hint: bool) -> Result<Found, Ref
 {
     let clauses = clauses(alloc, problem)?;
     let hints = vec![in alloc; hint; clauses.vars]?;
-    let found = found(alloc, problem, clauses, hints.as_slice())?;
+    let found = searched(alloc, problem, clauses, hints.as_slice())?;
     Ok(found)
 }
 

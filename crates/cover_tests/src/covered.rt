@@ -1,6 +1,6 @@
 // Programs with one cover or two, of which the solver finds one whatever the hint. Where no exit is reached no free is needed.
 use crate::choices::{Found, solved};
-use crate::posed::posed;
+use crate::posed::pose;
 use c_tree::Put;
 use std::alloc::Global;
 use std::test::Fail;
@@ -35,7 +35,7 @@ const COVERED: [Covered; 9] = covered![
 ];
 
 fn finds_a_cover(alloc: Global, covered: &Covered, hint: bool) -> Result<bool, Fail> {
-    let found = posed(alloc, covered.text)?;
+    let found = pose(alloc, covered.text)?;
     match solved(alloc, &found.problem, hint)? {
         Found::Nothing(_, _) => Ok(false),
         Found::Puts(choice) => {

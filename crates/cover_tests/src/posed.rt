@@ -34,7 +34,7 @@ fn graph_of(alloc: Global, program: &Program) -> Result<Graph, Fail> {
     Ok(lower(alloc, program, &contexts)?)
 }
 
-pub fn posed(alloc: Global, text: &[u8]) -> Result<Posed, Fail>
+pub fn pose(alloc: Global, text: &[u8]) -> Result<Posed, Fail>
     ensures { IfOk result (λ p. HasRooms p.problem) }
 {
     let program = program_of(alloc, text)?;

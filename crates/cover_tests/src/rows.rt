@@ -1,6 +1,6 @@
 // The counts that are told of three programs: a leak behind a null test, a read in the last return, and two exits that want two
 // puts which one triple holds.
-use crate::posed::{Posed, posed};
+use crate::posed::{Posed, pose};
 use c_graph::NodeKind;
 use cover_clauses::clauses;
 use cover_problem::alone;
@@ -22,7 +22,7 @@ struct Counts {
 }
 
 fn counts_of(alloc: Global, text: &[u8]) -> Result<Counts, Fail> {
-    let Posed { problem, .. } = posed(alloc, text)?;
+    let Posed { problem, .. } = pose(alloc, text)?;
     let clauses = clauses(alloc, &problem)?;
     Ok(Counts {
         puts: problem.names.puts.len(),
@@ -55,7 +55,7 @@ fn the_leak_behind_a_null_test_is_counted(rt: HostRuntime) -> Result<(), Fail> {
         literals: Some(1),
     };
     assert_eq!(rt; counts_of(rt.alloc(), programs::BRANCH)?, told);
-    let Posed { problem, .. } = posed(rt.alloc(), programs::BRANCH)?;
+    let Posed { problem, .. } = pose(rt.alloc(), programs::BRANCH)?;
     let nodes = nodes_of(rt.alloc(), &problem.derived)?;
     assert_eq!(rt;
         nodes.as_slice(),
@@ -70,7 +70,7 @@ const READ_IN_RETURN: &[u8] =
 
 /// The site that no put can free, and the offset of its exit.
 fn stuck(alloc: Global, text: &[u8]) -> Result<Option<(usize, usize)>, Fail> {
-    let Posed { graph, problem } = posed(alloc, text)?;
+    let Posed { graph, problem } = pose(alloc, text)?;
     let Some((site, exit)) = alone(&problem) else {
         return Ok(None);
     };

@@ -3,7 +3,7 @@ ghost use Rattle.cover_problem.specs.Problem.{HasRooms};
 
 use crate::cases::{BRANCHES, CALLS, Case, OBJECTS};
 use crate::choices::{Found, solved};
-use crate::posed::posed;
+use crate::posed::pose;
 use c_tree::Choice;
 use cover_problem::{Problem, is_cover};
 use mf_list::Seq;
@@ -45,7 +45,7 @@ fn is_covered_by_none(alloc: Global, problem: &Problem) -> bool
 }
 
 fn is_right(alloc: Global, case: &Case) -> Result<bool, Fail> {
-    let found = posed(alloc, case.text)?;
+    let found = pose(alloc, case.text)?;
     let first = is_solved(alloc, &found.problem, false, case.has_cover)?;
     let other = is_solved(alloc, &found.problem, true, case.has_cover)?;
     let by_none = is_covered_by_none(alloc, &found.problem);

@@ -3,7 +3,7 @@ ghost use Rattle.cover_problem.specs.Problem.{HasRooms};
 
 use crate::cases::{BRANCHES, CALLS, Case, OBJECTS};
 use crate::choices::all_puts;
-use crate::posed::posed;
+use crate::posed::pose;
 use crate::shown::{are_there, are_told, shown_clauses, shown_exits, shown_puts, shown_set};
 use cover_clauses::clauses;
 use cover_problem::{Problem, alone};
@@ -47,7 +47,7 @@ fn assert_clauses(
 
 fn assert_all(rt: &impl Abort, alloc: Global, cases: &[Case]) -> Result<(), Fail> {
     for case in cases {
-        let found = posed(alloc, case.text)?;
+        let found = pose(alloc, case.text)?;
         assert_problem(rt, alloc, case, &found.problem)?;
         assert_clauses(rt, alloc, case, &found.problem)?;
     }
