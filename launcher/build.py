@@ -45,15 +45,15 @@ def why_not_writable():
 
 
 def at_once():
-    """How many crates to prove side by side: as many as RT_JOBS says, or one for each idle processor, as far as memory
-    allows."""
+    """How many crates to prove side by side: as many as RT_JOBS says, or three for two idle processors, as far as memory
+    allows. Some of them wait for crates below."""
     said = os.environ.get("RT_JOBS", "")
     if said.isdigit():
         return int(said)
     idle = len(os.sched_getaffinity(0)) - round(os.getloadavg()[0])
     with open("/proc/meminfo", encoding="ascii") as file:
         free = [1024 * int(line.split()[1]) for line in file if line.startswith("MemAvailable:")]
-    return max(1, min([idle, *(it // ROOM for it in free)]))
+    return max(1, min([idle + idle // 2, *(it // ROOM for it in free)]))
 
 
 class Progress:

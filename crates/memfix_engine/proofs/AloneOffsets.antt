@@ -3,7 +3,6 @@ use Rattle.std.proofs.Common.{◌≡◌, ℕ, ◌<◌, ◌||◌, not, Bool, true
 use Rattle.std.proofs.lemmas.Bool.{false≢true}
 use Rattle.std.specs.Option.{option_and_then}
 use Rattle.c_tree.specs.Typing.{has}
-use Rattle.c_tree.specs.WellFormed.{IsWellFormed}
 use Rattle.c_tree.specs.declared.choice.Choice.{Choice}
 use Rattle.c_tree.specs.declared.program.Program.{Program}
 use Rattle.c_graph.specs.declared.graph.Action.{Action}
@@ -79,8 +78,8 @@ node_offset None made = absurd (false≢true made)
 node_offset (Some v) made = kind_offset v.kind made
 
 -- the site of the object that stands alone is that of a call of `malloc`
-pub site_has_offset : (p : Program) (q : Problem) (a : ℕ × ℕ) → IsWellFormed p → IsProblemIn p q → LeastAlone q (Some a) → (at : ℕ) × (site_offset (graph_in p) (names_in p) a.0 ≡ Some at)
-site_has_offset p q a formed is alone =
+pub site_has_offset : (p : Program) (q : Problem) (a : ℕ × ℕ) → IsProblemIn p q → LeastAlone q (Some a) → (at : ℕ) × (site_offset (graph_in p) (names_in p) a.0 ≡ Some at)
+site_has_offset p q a is alone =
     let g : Graph = graph_in p in
     let n : Names = names_in p in
     let x = alone_exit p q a is alone in

@@ -44,10 +44,10 @@ puts_ascend p a is = subst (λ (n : Names). IsTrue (ascends n.puts)) (is.names �
 -- objects that no put may free
 
 -- the site has an offset
-pub site_offset_there : (p : Program) (a : Analysis) (place : ℕ × ℕ) → IsWellFormed p → IsAnalysis p a → LeastAlone a.problem (Some place) → HasOffset (site_offset a.graph a.names place.0)
-site_offset_there p a place formed is alone =
+pub site_offset_there : (p : Program) (a : Analysis) (place : ℕ × ℕ) → IsAnalysis p a → LeastAlone a.problem (Some place) → HasOffset (site_offset a.graph a.names place.0)
+site_offset_there p a place is alone =
     subst (λ (n : Names). HasOffset (site_offset a.graph n place.0)) (sym is.names)
-    (subst (λ (g : Graph). HasOffset (site_offset g (names_in p) place.0)) (sym is.graph) (site_has_offset p a.problem place formed (problem_in p a is) alone))
+    (subst (λ (g : Graph). HasOffset (site_offset g (names_in p) place.0)) (sym is.graph) (site_has_offset p a.problem place (problem_in p a is) alone))
 
 -- and so has the exit
 pub exit_offset_there : (p : Program) (a : Analysis) (place : ℕ × ℕ) → IsAnalysis p a → LeastAlone a.problem (Some place) → HasOffset (exit_offset a.graph place.1)

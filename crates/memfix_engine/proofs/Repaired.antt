@@ -1,16 +1,12 @@
 -- What makes a repair, and that what refuses one excludes it.
-use Rattle.std.proofs.Common.{◌≡◌, ℕ, ◌≤◌, List, length, Some, Result, Ok, Err, IfErr, IsErrAnd, arith, refl, ap, sym, subst, ◌∙◌}
+use Rattle.std.proofs.Common.{◌≡◌, ℕ, ◌≤◌, List, length, Result, Ok, Err, IfErr, IsErrAnd, arith, refl, ap, sym, subst, ◌∙◌}
 use Rattle.c_lexer.specs.declared.token.Token.{Token}
-use Rattle.c_lexer.specs.declared.token.Tokens.{Tokens}
 use Rattle.c_lexer.specs.Scan.{HasTokens}
-use Rattle.c_parser.specs.Grammar.{Generates}
 use Rattle.c_tree.specs.Alike.{IsAlike}
 use Rattle.c_tree.specs.Fill.{IsAscending, fill}
 use Rattle.c_tree.specs.WellFormed.{IsWellFormed}
 use Rattle.c_tree.specs.declared.choice.Choice.{Choice}
 use Rattle.c_tree.specs.declared.program.Program.{Program}
-use Rattle.c_tree.specs.declared.tree.Tree.{Tree}
-use Rattle.c_types.specs.Program.{IsProgram}
 use Rattle.c_meaning.specs.Safe.{Safe}
 use Rattle.c_meaning.proofs.AlikeRuns.{safe_alike}
 use Rattle.c_meaning.proofs.FreesApart.{same_repair}
@@ -18,7 +14,7 @@ use Rattle.cover_problem.specs.declared.types.Problem.{Problem}
 use Rattle.cover_problem.specs.Problem.{IsCoverOf}
 use Rattle.source_patcher.specs.Edit.{edited}
 use Rattle.source_patcher.specs.InScope.{AreInScope, HaveGaps}
-use Rattle.source_patcher.specs.Reads.{HasProgram, ReadsWithin}
+use Rattle.source_patcher.specs.Reads.{ReadsWithin}
 use Rattle.source_patcher.specs.ReadsBack.{ReadsBack}
 use Rattle.memfix_engine.specs.declared.analysis.Analysis.{Analysis}
 use Rattle.memfix_engine.specs.declared.refusal.RepairRefusal.{RepairRefusal}
@@ -32,7 +28,6 @@ use Rattle.memfix_engine.specs.OwnFrees.{AreOwn}
 use Rattle.memfix_engine.specs.Refusal.{RefusesSource, source_limit}
 use Rattle.memfix_engine.specs.Repair.{OfProgram, RefusesRepair, Repairs, refusal_of}
 use Rattle.memfix_engine.specs.Repairing.{RefusesProgram}
-use Rattle.c_parser.proofs.Complete.{complete}
 use Rattle.memfix_engine.proofs.AloneOffsets.{alone_uncovered}
 use Rattle.memfix_engine.proofs.CoverScope.{named_in_scope}
 use Rattle.memfix_engine.proofs.CoversAgree.{covers_agree}
@@ -40,7 +35,8 @@ use Rattle.memfix_engine.proofs.LimitsAgree.{analysed_keeps}
 use Rattle.memfix_engine.proofs.NamedPuts.{named_gaps}
 use Rattle.memfix_engine.proofs.OwnText.{own_text}
 use Rattle.memfix_engine.proofs.Certified.{named_puts}
-use Rattle.memfix_engine.proofs.ReadsLemmas.{program_here, refused_source, same_program}
+use Rattle.memfix_engine.proofs.OneProgram.{one_program}
+use Rattle.memfix_engine.proofs.ReadsLemmas.{refused_source}
 
 -- a repair
 
@@ -139,23 +135,9 @@ source_refused b (source.Parse r) fits h = (fits, h, λ e. cc e)
 source_refused b (source.Resolve r) fits h = (fits, h, λ e. cc e)
 source_refused b source.Memory fits h = tt
 
--- tokens have one tree
-one_tree : (t u : Tree) (tokens : Tokens) → Generates t tokens → Generates u tokens → t ≡ u
-one_tree t u tokens h k = let same : Some t ≡ Some u = sym (complete t tokens h) ∙ complete u tokens k in cc
-
--- and one program
-one_program : (tokens : Tokens) (p q : Program) → HasProgram tokens p → HasProgram tokens q → p ≡ q
-one_program tokens p q h k =
-    let same : h.tree ≡ k.tree = one_tree h.tree k.tree tokens h.generates k.generates in
-    same_program k.tree p q (subst (λ (t : Tree). IsProgram t p) same h.program) k.program
-
--- so a text reads as one program
-one_reading : (b : List ℕ) (p q : Program) → ReadsWithin b p → ReadsWithin b q → p ≡ q
-one_reading b p q h k = one_program h.tokens p q h.program (program_here b h.tokens q h.are k)
-
 -- a cause of its program is one of any program that it reads as
 cause_here : (Cause : Program → Type 0) (b : List ℕ) (p : Program) → OfProgram b Cause → ReadsWithin b p → Cause p
-cause_here Cause b p h read = subst Cause (one_reading b h.program p h.read read) h.cause
+cause_here Cause b p h read = subst Cause (one_program b h.program p h.read read) h.cause
 
 -- an object that can't be freed leaves no cover
 none_beside : (p : Program) (site exit : ℕ) (q : Problem) (s : Choice) → IsAlone p site exit → IsAnalysed p q → IsCoverOf q s → ⊥

@@ -540,8 +540,24 @@ const SWAP_AND_COMPARE: Case = Case {
     pairs: "",
 };
 
+/// No object at all.
+const FOR_FORMS: Case = Case {
+    text: programs::FOR_FORMS,
+    triples: &[],
+    forbidden: "",
+    pairs: "",
+};
+
+/// No object at all.
+const CLOSING_BRACE: Case = Case {
+    text: programs::CLOSING_BRACE,
+    triples: &[],
+    forbidden: "",
+    pairs: "",
+};
+
 /// Tests, loops and ways that leave them.
-pub const BRANCHES: &[Case] = &[BRANCH, BREAK_AND_CONTINUE, CONDITIONS, ELSE_IF];
+pub const BRANCHES: &[Case] = &[BRANCH, BREAK_AND_CONTINUE, FOR_FORMS, CONDITIONS, ELSE_IF];
 
 /// Functions that are called, once, twice and never.
 pub const CALLS: &[Case] = &[
@@ -549,6 +565,7 @@ pub const CALLS: &[Case] = &[
     RETURN_OF_A_CALL,
     AN_UNREACHED_FUNCTION,
     WRAPPER,
+    CLOSING_BRACE,
 ];
 
 /// Objects with frees of their own, without any choice, and with two names.

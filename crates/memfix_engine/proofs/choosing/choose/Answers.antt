@@ -15,7 +15,7 @@ returns-in-Some-clause-chosen c =
 
 pub offsets-site-requires-clause-site : goal.offsets-site-requires-clause-site
 offsets-site-requires-clause-site c =
-    site_offset_there c.args.program.now c.args.analysis.now c.in-Some-alone.place c.requires.well_formed c.requires.analysis c.in-Some-alone.ensures
+    site_offset_there c.args.program.now c.args.analysis.now c.in-Some-alone.place c.requires.analysis c.in-Some-alone.ensures
 
 pub offsets-site-requires-clause-exit : goal.offsets-site-requires-clause-exit
 offsets-site-requires-clause-exit c =
