@@ -3,6 +3,7 @@ import os
 import shutil
 import subprocess
 import sys
+import tempfile
 
 sys.dont_write_bytecode = True
 ROOT = os.path.dirname(os.path.dirname(os.path.realpath(__file__)))
@@ -73,6 +74,19 @@ def run(program, text, words=()):
     if os.waitstatus_to_exitcode(status) != 0:
         sys.exit(f"status {os.waitstatus_to_exitcode(status)}")
     return usage
+
+
+def answered(program, text):
+    """What a run on a text took, and what it wrote."""
+    with tempfile.TemporaryFile() as file:
+        process = subprocess.Popen([program], stdin=subprocess.PIPE, stdout=file)
+        process.stdin.write(text)
+        process.stdin.close()
+        _, status, usage = os.wait4(process.pid, 0)
+        if os.waitstatus_to_exitcode(status) != 0:
+            sys.exit(f"status {os.waitstatus_to_exitcode(status)}")
+        file.seek(0)
+        return usage, file.read().decode()
 
 
 def seconds(usage):
