@@ -8,8 +8,6 @@ mod analysis;
 mod cases;
 pub mod facts;
 #[cfg(test)]
-mod fault_cases;
-#[cfg(test)]
 mod field_cases;
 #[cfg(test)]
 mod limits;

@@ -2,7 +2,6 @@
 // with its puts whose expressions the mark holds.
 use crate::analysis::{Analysis, analysed, derived};
 use crate::cases::{BRANCHES, CALLS, Case, OBJECTS};
-use crate::fault_cases::FAULT_CASES;
 use crate::field_cases::FIELD_CASES;
 use crate::shown::{are_there, are_told, shown};
 use c_graph::{Edge, NodeKind};
@@ -166,9 +165,4 @@ fn births_and_posts_of_objects_are_told(rt: HostRuntime) -> Result<(), Fail> {
 #[test]
 fn births_and_posts_of_fields_are_told(rt: HostRuntime) -> Result<(), Fail> {
     assert_all(&rt, rt.alloc(), FIELD_CASES)
-}
-
-#[test]
-fn births_and_posts_of_faults_are_told(rt: HostRuntime) -> Result<(), Fail> {
-    assert_all(&rt, rt.alloc(), FAULT_CASES)
 }

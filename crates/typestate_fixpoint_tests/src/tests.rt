@@ -1,7 +1,6 @@
 // What is derived from worked programs: triples, forbidden puts and pairs that conflict.
 use crate::analysis::{analysed, derived};
 use crate::cases::{BRANCHES, CALLS, Case, OBJECTS};
-use crate::fault_cases::FAULT_CASES;
 use crate::field_cases::FIELD_CASES;
 use crate::shown::{are_there, are_told, shown, shown_numbers, shown_pairs};
 use mf_list::Memory;
@@ -66,9 +65,4 @@ fn derives_what_is_told_of_objects(rt: HostRuntime) -> Result<(), Fail> {
 #[test]
 fn derives_what_is_told_of_fields(rt: HostRuntime) -> Result<(), Fail> {
     assert_all(&rt, rt.alloc(), FIELD_CASES)
-}
-
-#[test]
-fn derives_what_is_told_of_faults(rt: HostRuntime) -> Result<(), Fail> {
-    assert_all(&rt, rt.alloc(), FAULT_CASES)
 }
